@@ -1,0 +1,5 @@
+pub mod Faults
+pub mod Layout
+pub mod Daypart
+pub mod Repeat
+pub mod Event

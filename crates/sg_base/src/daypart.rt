@@ -1,0 +1,71 @@
+//! Dayparts: a named daily window with exceptions for weekdays.
+
+use crate::ids::DaypartId;
+use crate::list::Rows;
+use std::marker::Model;
+use thiserror::Error;
+
+/// A window of a day in seconds of the day, 0 to 86,399. It ends on the next day where its end isn't after
+/// its start.
+#[derive(Clone, Copy, Debug, PartialEq, Eq)]
+pub struct Window {
+    pub start: u32,
+    pub end: u32,
+}
+
+/// Why windows make no daypart.
+#[derive(Clone, Copy, Debug, PartialEq, Eq, Error)]
+pub enum DaypartFault {
+    #[error("{0} is no second of a day")]
+    BadTime(u32),
+    #[error("{0} is no weekday")]
+    BadWeekday(u8),
+    #[error("weekday {0} stands twice")]
+    DoubleWeekday(u8),
+}
+
+/// A named daily window, with exceptions for weekdays (1 is Monday) by ascending weekday.
+#[derive(Clone, Debug, Drop)]
+pub struct Daypart {
+    id: DaypartId,
+    window: Window,
+    exceptions: Rows<(u8, Window)>,
+}
+
+impl Model for Daypart {
+    ghost use Rattle.sg_base.specs.Daypart.{DaypartRow, IsDaypart};
+
+    ghost Value = { DaypartRow };
+
+    ghost view = { λ d. record { id = d.id; window = d.window; exceptions = d.exceptions } };
+
+    ghost invariant = { λ d. IsDaypart (record { id = d.id; window = d.window; exceptions = d.exceptions }) };
+}
+
+impl Daypart {
+    ghost use Rattle.std.specs.Prelude.{◌≡◌};
+    ghost use Rattle.sg_base.specs.Daypart.{IsDaypart};
+
+    /// The daypart's identity.
+    pub fn id(&self) -> DaypartId
+        ensures { result ≡ self.now.id }
+    {
+        self.id
+    }
+
+    /// The window of a date whose weekday has no exception.
+    pub fn window(&self) -> Window
+        ensures value { result ≡ self.now.window }
+        ensures valid { IsDaypart self.now }
+    {
+        self.window
+    }
+
+    /// The windows of weekdays that have their own, by ascending weekday.
+    pub fn exceptions(&self) -> &[(u8, Window)]
+        ensures value { result.now ≡ self.now.exceptions }
+        ensures valid { IsDaypart self.now }
+    {
+        self.exceptions.as_slice()
+    }
+}

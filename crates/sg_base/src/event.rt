@@ -1,0 +1,131 @@
+//! Events: what is scheduled, when, and with which precedence.
+
+ghost use Rattle.std.specs.Prelude.{◌≡◌, ◌≤◌, Some, None, IfSome, MatchResult};
+
+use crate::ids::{CampaignId, DaypartId, EventId, LayoutId};
+use crate::repeat::{Repeat, Unit};
+use std::marker::Model;
+use thiserror::Error;
+
+/// When an event happens, its repeats apart.
+#[derive(Clone, Copy, Debug, PartialEq, Eq)]
+pub enum When {
+    /// At every second.
+    Always,
+    /// From one local second up to another.
+    Custom { from: u32, to: u32 },
+    /// In a daypart's window of a date, a day number.
+    Named { daypart: DaypartId, date: u32 },
+}
+
+/// What an event shows.
+#[derive(Clone, Copy, Debug, PartialEq, Eq)]
+pub enum Target {
+    Layout(LayoutId),
+    Campaign(CampaignId),
+}
+
+/// Why values make no event.
+#[derive(Clone, Copy, Debug, PartialEq, Eq, Error)]
+pub enum EventFault {
+    #[error("an order or a priority is above 65,535")]
+    BigNumber,
+    #[error("a share of voice is above 3,600 seconds")]
+    BigShare,
+    #[error("an interrupt shows a layout, and no campaign")]
+    InterruptCampaign,
+    #[error("the time ends where it begins, or before")]
+    EmptyTime,
+    #[error("the time is after 2099")]
+    PastRange,
+    #[error("an event at every second has no repeat")]
+    AlwaysRepeats,
+    #[error("a daypart doesn't repeat by the hour")]
+    HourDaypart,
+    #[error("the last day is before the first")]
+    UntilBeforeBase,
+}
+
+/// An event: a layout or a campaign at a time, with an order and a priority of at most 65,535. A share of
+/// 1 to 3,600 seconds an hour makes it an interrupt, and 0 a normal event.
+#[derive(Clone, Copy, Debug)]
+pub struct Event {
+    id: EventId,
+    target: Target,
+    when: When,
+    repeat: Option<Repeat>,
+    order: u32,
+    priority: u32,
+    share: u32,
+}
+
+impl Model for Event {
+    ghost use Rattle.sg_base.specs.Event.{EventRow, IsEvent};
+
+    ghost Value = { EventRow };
+
+    ghost view = { λ e. record { id = e.id; target = e.target; when = e.when; repeat = e.repeat; order = e.order; priority = e.priority; share = e.share } };
+
+    ghost invariant = { λ e. IsEvent (record { id = e.id; target = e.target; when = e.when; repeat = e.repeat; order = e.order; priority = e.priority; share = e.share }) };
+
+    ghost inverse = { λ e. record { id = e.id; target = e.target; when = e.when; repeat = e.repeat; order = e.order; priority = e.priority; share = e.share } };
+}
+
+impl Event {
+    ghost use Rattle.sg_base.specs.Event.{IsEvent};
+
+    /// The event's identity.
+    pub fn id(&self) -> EventId
+        ensures { result ≡ self.now.id }
+    {
+        self.id
+    }
+
+    /// What it shows.
+    pub fn target(&self) -> Target
+        ensures value { result ≡ self.now.target }
+        ensures valid { IsEvent self.now }
+    {
+        self.target
+    }
+
+    /// When it happens, its repeats apart.
+    pub fn when(&self) -> When
+        ensures value { result ≡ self.now.when }
+        ensures valid { IsEvent self.now }
+    {
+        self.when
+    }
+
+    /// How it repeats.
+    pub fn repeat(&self) -> &Option<Repeat>
+        ensures value { result.now ≡ self.now.repeat }
+        ensures valid { IsEvent self.now }
+    {
+        &self.repeat
+    }
+
+    /// Its place among events of its priority.
+    pub fn order(&self) -> u32
+        ensures value { result ≡ self.now.order }
+        ensures few { result ≤ 65535 }
+    {
+        self.order
+    }
+
+    /// Of the events that are active together those of the greatest priority are shown.
+    pub fn priority(&self) -> u32
+        ensures value { result ≡ self.now.priority }
+        ensures few { result ≤ 65535 }
+    {
+        self.priority
+    }
+
+    /// Seconds of each hour that an interrupt is to have, and 0 for a normal event.
+    pub fn share(&self) -> u32
+        ensures value { result ≡ self.now.share }
+        ensures few { result ≤ 3600 }
+    {
+        self.share
+    }
+}
