@@ -2,6 +2,7 @@
 
 use crate::ids::DaypartId;
 use crate::list::Rows;
+use std::alloc::AllocError;
 use std::marker::Model;
 use thiserror::Error;
 
@@ -25,7 +26,7 @@ pub enum DaypartFault {
 }
 
 /// A named daily window, with exceptions for weekdays (1 is Monday) by ascending weekday.
-#[derive(Clone, Debug, Drop)]
+#[derive(Debug, Drop)]
 pub struct Daypart {
     id: DaypartId,
     window: Window,
@@ -67,5 +68,20 @@ impl Daypart {
         ensures valid { IsDaypart self.now }
     {
         self.exceptions.as_slice()
+    }
+}
+
+impl Clone for Daypart {
+    ghost use Rattle.std.specs.Prelude.{◌≡◌};
+
+    ghost is_clone = { λ x y. y ≡ x };
+
+    fn clone(&self) -> Result<Daypart, AllocError> {
+        let exceptions = self.exceptions.clone()?;
+        Ok(Daypart {
+            id: self.id,
+            window: self.window,
+            exceptions,
+        })
     }
 }

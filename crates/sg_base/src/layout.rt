@@ -6,6 +6,7 @@ ghost use Rattle.std.specs.List.{AllByRecursion, list_any};
 use crate::ids::{LayoutId, MediaId};
 use crate::layout_rules::{fault_of, longest_of, shown_at};
 use crate::list::Rows;
+use std::alloc::AllocError;
 use std::marker::Model;
 use thiserror::Error;
 
@@ -17,7 +18,7 @@ pub struct Item {
 }
 
 /// A part of the screen that plays items one after another, and begins again at the end.
-#[derive(Clone, Debug, PartialEq, Drop)]
+#[derive(Debug, PartialEq, Drop)]
 pub struct Region {
     pub id: u32,
     pub items: Rows<Item>,
@@ -42,7 +43,7 @@ pub enum LayoutFault {
 
 /// A layout: 1 to 16 regions of different ids, each of 1 to 64 items of at least a second, which together
 /// last at most 3,600 seconds.
-#[derive(Clone, Debug, Drop)]
+#[derive(Debug, Drop)]
 pub struct Layout {
     id: LayoutId,
     regions: Rows<Region>,
@@ -112,5 +113,30 @@ impl Layout {
         ensures covers { (r : Region) → slice_get self.now.regions region ≡ Some r → Covers r.items (offset % seconds_of r.items) result }
     {
         shown_at(&self.regions.as_slice()[region], offset)
+    }
+}
+
+impl Clone for Region {
+    ghost use Rattle.std.specs.Prelude.{◌≡◌};
+
+    ghost is_clone = { λ x y. y ≡ x };
+
+    fn clone(&self) -> Result<Region, AllocError> {
+        let items = self.items.clone()?;
+        Ok(Region { id: self.id, items })
+    }
+}
+
+impl Clone for Layout {
+    ghost use Rattle.std.specs.Prelude.{◌≡◌};
+
+    ghost is_clone = { λ x y. y ≡ x };
+
+    fn clone(&self) -> Result<Layout, AllocError> {
+        let regions = self.regions.clone()?;
+        Ok(Layout {
+            id: self.id,
+            regions,
+        })
     }
 }
