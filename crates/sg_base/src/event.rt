@@ -2,8 +2,9 @@
 
 ghost use Rattle.std.specs.Prelude.{◌≡◌, ◌≤◌, Some, None, IfSome, MatchResult};
 
+use crate::event_rules::fault_of;
 use crate::ids::{CampaignId, DaypartId, EventId, LayoutId};
-use crate::repeat::{Repeat, Unit};
+use crate::repeat::Repeat;
 use std::marker::Model;
 use thiserror::Error;
 
@@ -72,7 +73,41 @@ impl Model for Event {
 }
 
 impl Event {
-    ghost use Rattle.sg_base.specs.Event.{IsEvent};
+    ghost use Rattle.sg_base.specs.Event.{IsEvent, event_fault};
+
+    /// An event. It is refused with `BigNumber` for an order or a priority above 65,535; `BigShare` above
+    /// 3,600; `InterruptCampaign` for a campaign with a share above 0; `EmptyTime` for a time that ends where
+    /// it begins, or before; `PastRange` for an end above 4,102,444,800 or a date above 47,481 (2099-12-31);
+    /// `AlwaysRepeats`; `HourDaypart` for a daypart that repeats by the hour; and `UntilBeforeBase` for a
+    /// repeat whose last day is before the day that the first occurrence begins on. The first of these is
+    /// the answer.
+    pub fn new(
+        id: EventId,
+        target: Target,
+        when: When,
+        repeat: Option<Repeat>,
+        order: u32,
+        priority: u32,
+        share: u32,
+    ) -> Result<Event, EventFault>
+        ensures { MatchResult result
+            (λ e. (event_fault target when repeat order priority share ≡ None)
+            × (e ≡ record { id = id; target = target; when = when; repeat = repeat; order = order; priority = priority; share = share }))
+            (λ f. event_fault target when repeat order priority share ≡ Some f) }
+    {
+        match fault_of(target, when, &repeat, order, priority, share) {
+            Some(fault) => Err(fault),
+            None => Ok(Event {
+                id,
+                target,
+                when,
+                repeat,
+                order,
+                priority,
+                share,
+            }),
+        }
+    }
 
     /// The event's identity.
     pub fn id(&self) -> EventId
@@ -109,6 +144,7 @@ impl Event {
     pub fn order(&self) -> u32
         ensures value { result ≡ self.now.order }
         ensures few { result ≤ 65535 }
+        ensures valid { IsEvent self.now }
     {
         self.order
     }
@@ -117,6 +153,7 @@ impl Event {
     pub fn priority(&self) -> u32
         ensures value { result ≡ self.now.priority }
         ensures few { result ≤ 65535 }
+        ensures valid { IsEvent self.now }
     {
         self.priority
     }
@@ -125,6 +162,7 @@ impl Event {
     pub fn share(&self) -> u32
         ensures value { result ≡ self.now.share }
         ensures few { result ≤ 3600 }
+        ensures valid { IsEvent self.now }
     {
         self.share
     }

@@ -24,6 +24,7 @@ pub use zone::ZoneRule;
 mod campaign;
 mod daypart;
 mod event;
+mod event_rules;
 mod file;
 mod ids;
 mod layout;
