@@ -1,2 +1,4 @@
 pub mod FaultLemmas
 pub mod LayoutLemmas
+pub mod DoubleLemmas
+pub mod DaypartLemmas

@@ -1,5 +1,5 @@
 -- Dayparts: a named daily window with exceptions for weekdays.
-use Rattle.std.specs.Prelude.{◌≡◌, ℕ, ◌<◌, ◌==◌, nat_lt, ◌||◌, Bool, if◌then◌else◌, List, [], ◌∷◌, ◌++◌, Option, Some, None}
+use Rattle.std.specs.Prelude.{◌≡◌, ℕ, ◌<◌, ◌==◌, nat_lt, ◌||◌, if◌then◌else◌, List, [], ◌∷◌, Option, Some, None}
 use Rattle.sg_base.specs.declared.ids.DaypartId.{DaypartId}
 use Rattle.sg_base.specs.declared.daypart.Window.{Window}
 use Rattle.sg_base.specs.declared.daypart.DaypartFault.{DaypartFault}

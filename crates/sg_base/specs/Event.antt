@@ -1,5 +1,5 @@
 -- Events: what is scheduled, when, and with which precedence.
-use Rattle.std.specs.Prelude.{◌≡◌, ℕ, ◌/◌, ◌==◌, nat_lt, nat_le, ◌||◌, ◌&&◌, not, Bool, true, false, if◌then◌else◌, Option, Some, None, IfSome}
+use Rattle.std.specs.Prelude.{◌≡◌, ℕ, ◌/◌, nat_lt, nat_le, ◌||◌, ◌&&◌, Bool, true, false, if◌then◌else◌, Option, Some, None, IfSome}
 use Rattle.sg_base.specs.declared.ids.EventId.{EventId}
 use Rattle.sg_base.specs.declared.repeat.Unit.{Unit}
 use Rattle.sg_base.specs.declared.repeat.Unit.TheVariants.{Hour, Day, Week, Month, Year}

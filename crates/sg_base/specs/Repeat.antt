@@ -1,5 +1,5 @@
 -- Repeats: by hour, day, week, month or year.
-use Rattle.std.specs.Prelude.{◌≡◌, ℕ, ◌%◌, ◌==◌, nat_lt, Bool, if◌then◌else◌, Option, Some, None}
+use Rattle.std.specs.Prelude.{◌≡◌, ℕ, ◌%◌, ◌==◌, nat_lt, if◌then◌else◌, Option, Some, None}
 use Rattle.sg_base.specs.declared.repeat.Unit.{Unit}
 use Rattle.sg_base.specs.declared.repeat.Unit.TheVariants.{Hour, Day, Week, Month, Year}
 use Rattle.sg_base.specs.declared.repeat.RepeatFault.{RepeatFault}

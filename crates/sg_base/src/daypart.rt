@@ -1,5 +1,6 @@
 //! Dayparts: a named daily window with exceptions for weekdays.
 
+use crate::daypart_rules::{fault_of, order};
 use crate::ids::DaypartId;
 use crate::list::Rows;
 use std::alloc::AllocError;
@@ -44,8 +45,42 @@ impl Model for Daypart {
 }
 
 impl Daypart {
-    ghost use Rattle.std.specs.Prelude.{◌≡◌};
-    ghost use Rattle.sg_base.specs.Daypart.{IsDaypart};
+    ghost use Rattle.std.specs.Prelude.{◌≡◌, ℕ, List, Some, None, MatchResult, IfOk, IsPermutation};
+    ghost use Rattle.sg_base.specs.Daypart.{IsDaypart, Ascends, daypart_fault};
+
+    /// A daypart, whose exceptions are put in the order of their weekdays. It is refused with `BadTime` for a
+    /// start or an end above 86,399 (the window's, then each exception's in the order given), `BadWeekday`
+    /// outside 1 to 7, and `DoubleWeekday` for one that stands further up; the first of these is the
+    /// answer, each looked for in all the exceptions before the next. It takes no memory, and a refusal
+    /// drops the exceptions.
+    pub fn new(
+        id: DaypartId,
+        window: Window,
+        exceptions: Vec<(u8, Window)>,
+    ) -> Result<Daypart, DaypartFault>
+        ensures made { MatchResult result
+            (λ d. (daypart_fault window exceptions.items ≡ None)
+            × (d.id ≡ id) × (d.window ≡ window) × IsPermutation exceptions.items d.exceptions)
+            (λ f. daypart_fault window exceptions.items ≡ Some f) }
+
+        // In whatever order the exceptions came: another ascending order of them is the same.
+        ensures one_order { IfOk result
+            (λ d. (es : List (ℕ × Window)) → IsPermutation exceptions.items es → Ascends es
+            → d.exceptions ≡ es) }
+    {
+        match fault_of(window, exceptions.as_slice()) {
+            Some(fault) => Err(fault),
+            None => {
+                let mut ordered = exceptions;
+                order(&mut ordered);
+                Ok(Daypart {
+                    id,
+                    window,
+                    exceptions: Rows::from_vec(ordered),
+                })
+            }
+        }
+    }
 
     /// The daypart's identity.
     pub fn id(&self) -> DaypartId

@@ -23,6 +23,7 @@ pub use zone::ZoneRule;
 
 mod campaign;
 mod daypart;
+mod daypart_rules;
 mod event;
 mod event_rules;
 mod file;

@@ -1,8 +1,7 @@
 -- The region that the code reads is the one that the clauses name.
-use Rattle.std.proofs.Common.{◌≡◌, ◌%◌, List, Some, None, get_or, slice_get, ap, ◌∙◌}
+use Rattle.std.proofs.Common.{◌≡◌, ap, ◌∙◌}
 use Rattle.std.proofs.lemmas.Option.{get_or_from_slice_get}
-use Rattle.sg_base.specs.declared.layout.Region.{Region}
-use Rattle.sg_base.specs.Layout.{LayoutRow, region_fault, seconds_of, medium_at, Covers}
+use Rattle.sg_base.specs.Layout.{LayoutRow, region_fault}
 use Rattle.sg_base.proofs.FaultLemmas.{none_at}
 use Rattle.sg_base.proofs.LayoutLemmas.{layout_bounds}
 use Rattle.sg_base.proofs.layout.Layout.item_at.Goals as goal

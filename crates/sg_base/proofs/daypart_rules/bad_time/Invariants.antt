@@ -1,0 +1,8 @@
+use Rattle.std.proofs.Common.{◌≡◌, drop}
+use Rattle.sg_base.specs.Faults.{first_in}
+use Rattle.sg_base.specs.Daypart.{window_fault}
+use Rattle.sg_base.proofs.daypart_rules.bad_time.Given as goal
+
+abbrev pub invariant-loop-exception : goal.invariant-loop-exception
+invariant-loop-exception l =
+    first_in (λ e. window_fault e.1) (drop l.exception-index l.exceptions) ≡ first_in (λ e. window_fault e.1) l.exceptions
