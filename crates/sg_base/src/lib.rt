@@ -34,5 +34,7 @@ mod list;
 mod play;
 mod repeat;
 mod steps;
+#[cfg(test)]
+mod tests;
 mod time;
 mod zone;
