@@ -1,0 +1,4 @@
+pub mod Hour
+pub mod Begin
+pub mod Law
+pub mod Within
