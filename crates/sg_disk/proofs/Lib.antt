@@ -1,0 +1,16 @@
+pub mod Ranges
+pub mod Moments
+pub mod Writes
+pub mod Overwrites
+pub mod Steps
+pub mod Logs
+pub mod Replays
+pub mod MemSteps
+pub mod Noted
+pub mod Picks
+pub mod Standing
+pub mod Areas
+pub mod Extents
+pub mod Gates
+pub mod Fresh
+pub mod Same

@@ -1,0 +1,118 @@
+-- What the bytes of a disk stand for, from call to call.
+use Rattle.std.proofs.Common.{◌≡◌, ◌⊎◌, inl, inr, ℕ, ◌<◌, ◌≤◌, List, [], ◌∷◌, ◌++◌, length, get_or, Option, None, Some, MatchOption, All, refl, sym, ap, subst, arith}
+use Rattle.std.proofs.lemmas.Bool.{cases_eq, cases_lt}
+use Rattle.std.proofs.lemmas.List.{get_or_append_left, get_or_push, length_push}
+use Rattle.sg_base.specs.declared.play.PlayBody.{PlayBody}
+use Rattle.sg_disk.specs.View.{View, Only}
+use Rattle.sg_disk.specs.Runs.{LeavesOnly, Quiet}
+use Rattle.sg_disk.specs.Contents.{Contents, StoredFile, Change, IsPlay, IsLawful, IsSnapshot, IsInside, Amid, changed, played}
+use Rattle.sg_disk.specs.StandsFor.{IsOpen, StandsFor, Either, StandsForOne, Two, Settled, Between}
+use Rattle.sg_disk.specs.declared.places.TheConstants.{MAX_PLAYS}
+use Rattle.sg_disk.proofs.Moments.{at_end}
+
+-- what a read gives stands for one of them
+pub between_read : (v : View) (P : Contents → Type 0) → Between v P → StandsForOne P v.bytes
+between_read v P between = between.each v.bytes (v.reads between.told)
+
+pub settled_read : (v : View) (p : Contents) → Settled v p → StandsFor p v.bytes
+settled_read v p settled = settled.each v.bytes (v.reads settled.told)
+
+-- one of a set
+pub settled_between : (v : View) (P : Contents → Type 0) (p : Contents) → P p → Settled v p → Between v P
+settled_between v P p is settled = record { told = settled.told; each = λ c now. (p, is, settled.each c now) }
+
+-- a larger set
+pub between_wider : (v : View) (P Q : Contents → Type 0) → ((p : Contents) → P p → Q p) → Between v P → Between v Q
+between_wider v P Q f between = record {
+  told = between.told;
+  each = λ c now. let one = between.each c now in (one.0, f one.0 one.1, one.2);
+}
+
+-- two contents as a set
+pub either_one : (p q : Contents) (c : List ℕ) → Either p q c → StandsForOne (Two p q) c
+either_one p q c (inl first) = (p, inl refl, first)
+either_one p q c (inr second) = (q, inr refl, second)
+
+pub one_either : (p q : Contents) (c : List ℕ) → StandsForOne (Two p q) c → Either p q c
+one_either p q c one = elim one.1 [
+  | inl first ↦ inl (subst (λ (r : Contents). StandsFor r c) first one.2)
+  | inr second ↦ inr (subst (λ (r : Contents). StandsFor r c) second one.2)
+]
+
+-- a change that takes place by one byte leaves the contents before it or after it
+pub either_amid : (p : Contents) (change : Change) (c : List ℕ) → Either p (changed p change) c → StandsForOne (Amid p change) c
+either_amid p change c (inl before) = (p, inl refl, before)
+either_amid p change c (inr later) = (changed p change, inr (inl refl), later)
+
+-- after a call that failed
+pub between_after : (v w : View) (P : Contents → Type 0) → v.told → LeavesOnly (StandsForOne P) v w → (v.told → w.told) → Between w P
+between_after v w P told run tells = record { told = tells told; each = at_end v w (StandsForOne P) run }
+
+-- after a sync, and calls that change nothing
+pub settled_by : (w : View) (b : List ℕ) (r : Contents) → w.told → Only b w → StandsFor r b → Settled w r
+settled_by w b r told only stands = record { told = told; each = λ c now. subst (λ (d : List ℕ). StandsFor r d) (sym (only c now)) stands }
+
+pub settled_quiet : (n : ℕ) (v w : View) (p : Contents) → Quiet n v w → Settled v p → Settled w p
+settled_quiet n v w p quiet settled = record {
+  told = quiet.ran.told settled.told;
+  each = λ c now. settled.each c (at_end v w v.images quiet.moments c now);
+}
+
+-- a run that leaves only these contents
+pub settled_leaves : (v w : View) (p : Contents) → v.told → LeavesOnly (StandsFor p) v w → (v.told → w.told) → Settled w p
+settled_leaves v w p told run tells = record { told = tells told; each = at_end v w (StandsFor p) run }
+
+-- a gate is open or closed
+pub open_cases : (slot : List ℕ) → IsOpen slot ⊎ (IsOpen slot → ⊥)
+open_cases slot = cases_eq (get_or slot 0 0) 1
+
+-- a greater floor asks no more
+pub lawful_floor : (p : Contents) (floor : ℕ) → p.floor ≤ floor → IsLawful p → IsLawful (record p { floor = floor })
+lawful_floor p floor le lawful = record {
+  display = lawful.display;
+  epoch = lawful.epoch;
+  room = lawful.room;
+  snapshot = lawful.snapshot;
+  plays = lawful.plays;
+  few = lawful.few;
+  floor = omega (arith, le, lawful.floor);
+}
+
+pub floor_raised : (p : Contents) (floor : ℕ) (c : List ℕ) → p.floor ≤ floor → StandsFor p c → StandsFor (record p { floor = floor }) c
+floor_raised p floor c le stands = record {
+  lawful = lawful_floor p floor le stands.lawful;
+  size = stands.size;
+  header = stands.header;
+  slots = stands.slots;
+  files = stands.files;
+  journal = let from = stands.journal in (from.0, omega (arith, le, from.1), from.2);
+}
+
+-- one play more is lawful while there is room for it
+plays_more : (plays : List PlayBody) (play : PlayBody) → All IsPlay plays → IsPlay play → All IsPlay (plays ++ play ∷ [])
+plays_more plays play all is k d lt =
+    elim (cases_lt k (length plays)) [
+      | inl before ↦ subst IsPlay (sym (get_or_append_left plays (play ∷ []) d k before)) (all k d before)
+      | inr past ↦
+          let at : length plays ≡ k = omega (arith, length_push plays play) in
+          subst IsPlay (sym (get_or_push plays play d k at)) is
+    ]
+
+pub lawful_played : (p : Contents) (play : PlayBody) → length p.plays < MAX_PLAYS → IsPlay play → IsLawful p → IsLawful (played p play)
+lawful_played p play room is lawful = record {
+  display = lawful.display;
+  epoch = lawful.epoch;
+  room = lawful.room;
+  snapshot = lawful.snapshot;
+  floor = lawful.floor;
+  plays = plays_more p.plays play lawful.plays is;
+  few = omega (arith, room, length_push p.plays play);
+}
+
+-- all segments of lawful contents lie in the data area
+inside_of : (room number : ℕ) (text : Option (List ℕ)) (files : List StoredFile) → MatchOption text ((number ≡ 0) × (files ≡ [])) (λ t. IsSnapshot room number t files) → All (λ f. All (IsInside room) f.segments) files
+inside_of room number None files none k d lt = absurd (omega (arith, lt, ap length none.1))
+inside_of room number (Some t) files snapshot k d lt = snapshot.inside k d lt
+
+pub lawful_inside : (p : Contents) → IsLawful p → All (λ f. All (IsInside p.room) f.segments) p.files
+lawful_inside p lawful = inside_of p.room p.number p.text p.files lawful.snapshot

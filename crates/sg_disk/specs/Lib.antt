@@ -1,0 +1,9 @@
+pub mod View
+pub mod Runs
+pub mod History
+pub mod HistoryLaws
+pub mod Fuse
+pub mod Memory
+pub mod Contents
+pub mod StandsFor
+pub mod Blind
