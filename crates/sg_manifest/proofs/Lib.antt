@@ -1,0 +1,10 @@
+pub mod Compact
+pub mod CompactSound
+pub mod RowLemmas
+pub mod SearchLemmas
+pub mod ZoneLemmas
+pub mod SoundRows
+pub mod AgainRows
+pub mod Laws
+pub mod WholeReading
+pub mod WholeAgain

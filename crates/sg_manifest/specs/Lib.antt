@@ -1,0 +1,9 @@
+pub mod Zone
+pub mod Rows
+pub mod Snapshot
+pub mod Text
+pub mod Sample
+pub mod Built
+pub mod Reading
+pub mod Compact
+pub mod Fitting

@@ -1,0 +1,100 @@
+-- What a manifest says, and when that is valid.
+use Rattle.std.specs.Prelude.{ℕ, ◌≤◌, List, length, map, Contains}
+use Rattle.std.specs.List.{AllByRecursion}
+use Rattle.std.specs.List.Sorted.{IsStrictlyIncreasing}
+use Rattle.sg_base.specs.declared.ids.LayoutId.{LayoutId}
+use Rattle.sg_base.specs.declared.layout.Region.{Region}
+use Rattle.sg_base.specs.declared.campaign.Campaign.{Campaign as CampaignRow}
+use Rattle.sg_base.specs.declared.event.When.{When}
+use Rattle.sg_base.specs.declared.event.When.TheVariants.{Always, Custom, Named}
+use Rattle.sg_base.specs.declared.event.Target.{Target}
+use Rattle.sg_base.specs.declared.event.Target.TheVariants.{Layout, Campaign}
+use Rattle.sg_base.specs.declared.file.Listed.{Listed}
+use Rattle.sg_base.specs.declared.zone.ZoneRule.{ZoneRule}
+use Rattle.sg_base.specs.Layout.{LayoutRow}
+use Rattle.sg_base.specs.Daypart.{DaypartRow}
+use Rattle.sg_base.specs.Event.{EventRow}
+use Rattle.sg_manifest.specs.Zone.{IsZone}
+use Rattle.sg_manifest.specs.Rows.{IsId, IsLayoutRow, IsCampaignRow, IsDaypartRow, IsEventRow, IsListed}
+
+pub record SnapshotRow : Type 0 where
+  pub zone : ZoneRule
+  pub default : LayoutId
+  pub layouts : List LayoutRow
+  pub campaigns : List CampaignRow
+  pub dayparts : List DaypartRow
+  pub events : List EventRow
+  pub files : List Listed
+
+-- the ids of each list, as numbers
+abbrev pub layout_ids : SnapshotRow → List ℕ
+layout_ids s = map (λ l. l.id.0) s.layouts
+
+abbrev pub campaign_ids : SnapshotRow → List ℕ
+campaign_ids s = map (λ c. c.id.0) s.campaigns
+
+abbrev pub daypart_ids : SnapshotRow → List ℕ
+daypart_ids s = map (λ d. d.id.0) s.dayparts
+
+abbrev pub event_ids : SnapshotRow → List ℕ
+event_ids s = map (λ e. e.id.0) s.events
+
+abbrev pub file_ids : SnapshotRow → List ℕ
+file_ids s = map (λ f. f.media.0) s.files
+
+-- each row is accepted by its constructor
+pub record HasValidRows (s : SnapshotRow) : Type 0 where
+  pub layouts : AllByRecursion IsLayoutRow s.layouts
+  pub campaigns : AllByRecursion IsCampaignRow s.campaigns
+  pub dayparts : AllByRecursion IsDaypartRow s.dayparts
+  pub events : AllByRecursion IsEventRow s.events
+  pub files : AllByRecursion IsListed s.files
+
+-- each list ascends by id, so ids are distinct
+pub record IsInOrder (s : SnapshotRow) : Type 0 where
+  pub layouts : IsStrictlyIncreasing (layout_ids s)
+  pub campaigns : IsStrictlyIncreasing (campaign_ids s)
+  pub dayparts : IsStrictlyIncreasing (daypart_ids s)
+  pub events : IsStrictlyIncreasing (event_ids s)
+  pub files : IsStrictlyIncreasing (file_ids s)
+
+-- each medium of the region is among the files
+abbrev pub HasMedia : List ℕ → Region → Type 0
+HasMedia files r = AllByRecursion (λ i. Contains files i.media.0) r.items
+
+-- the target is a layout or a campaign of the snapshot
+abbrev pub HasTarget : SnapshotRow → Target → Type 0
+HasTarget s (Layout id) = Contains (layout_ids s) id.0
+HasTarget s (Campaign id) = Contains (campaign_ids s) id.0
+
+-- a daypart that is named is one of the snapshot
+abbrev pub HasDaypart : SnapshotRow → When → Type 0
+HasDaypart s Always = Unit {0}
+HasDaypart s (Custom from to) = Unit {0}
+HasDaypart s (Named daypart date) = Contains (daypart_ids s) daypart.0
+
+-- what is named is there: the default layout, the layouts' media among the files, the campaigns' layouts,
+-- the events' targets and dayparts
+pub record HasAllNamed (s : SnapshotRow) : Type 0 where
+  pub default : Contains (layout_ids s) s.default.0
+  pub media : AllByRecursion (λ l. AllByRecursion (HasMedia (file_ids s)) l.regions) s.layouts
+  pub campaigns : AllByRecursion (λ c. AllByRecursion (λ l. Contains (layout_ids s) l.0) c.layouts) s.campaigns
+  pub targets : AllByRecursion (λ e. HasTarget s e.target) s.events
+  pub dayparts : AllByRecursion (λ e. HasDaypart s e.when) s.events
+
+-- at most 512 files, 512 layouts, 256 campaigns, 64 dayparts and 1,024 events
+pub record IsWithinLimits (s : SnapshotRow) : Type 0 where
+  pub files : length s.files ≤ 512
+  pub layouts : length s.layouts ≤ 512
+  pub campaigns : length s.campaigns ≤ 256
+  pub dayparts : length s.dayparts ≤ 64
+  pub events : length s.events ≤ 1024
+
+-- a valid snapshot
+pub record IsSnapshot (s : SnapshotRow) : Type 0 where
+  pub zone : IsZone s.zone
+  pub default : IsId s.default.0
+  pub rows : HasValidRows s
+  pub order : IsInOrder s
+  pub named : HasAllNamed s
+  pub few : IsWithinLimits s

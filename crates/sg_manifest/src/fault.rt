@@ -1,0 +1,37 @@
+//! Why bytes are no manifest.
+
+use std::alloc::{AllocError, AllocFailed};
+use thiserror::Error;
+
+/// Why [`read`](crate::read) gives no snapshot.
+#[derive(Clone, Copy, Debug, PartialEq, Eq, Error)]
+pub enum ManifestFault {
+    /// The bytes aren't the text of a valid snapshot that is read so far.
+    #[error("this is no manifest that is read so far")]
+    NotBuilt,
+    /// Memory ran out.
+    #[error("memory ran out")]
+    Memory,
+}
+
+impl From<AllocError> for ManifestFault {
+    ghost use Rattle.std.specs.Prelude.{◌≡◌};
+    ghost use Rattle.sg_manifest.specs.declared.fault.ManifestFault.TheVariants.{Memory};
+
+    ghost from_gives = { λ _ fault. fault ≡ Memory };
+
+    fn from(_refused: AllocError) -> ManifestFault {
+        ManifestFault::Memory
+    }
+}
+
+impl<T: Drop> From<AllocFailed<T>> for ManifestFault {
+    ghost use Rattle.std.specs.Prelude.{◌≡◌};
+    ghost use Rattle.sg_manifest.specs.declared.fault.ManifestFault.TheVariants.{Memory};
+
+    ghost from_gives = { λ _ fault. fault ≡ Memory };
+
+    fn from(_refused: AllocFailed<T>) -> ManifestFault {
+        ManifestFault::Memory
+    }
+}

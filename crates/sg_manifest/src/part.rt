@@ -1,0 +1,78 @@
+//! The parts of rows in JSON: members, numbers, digests.
+
+ghost use Rattle.std.specs.Prelude.{◌≡◌, IfOk};
+ghost use Rattle.serde_json.specs.Find.{get};
+ghost use Rattle.serde_json.specs.View.{view};
+ghost use Rattle.sg_manifest.specs.Reading.{Gives, found, member_at, number_at, id_at, digest_at, minutes_at, version_at};
+ghost use Rattle.sg_manifest.specs.Rows.{IsId};
+ghost use Rattle.sg_manifest.specs.Zone.{IsMinutes};
+
+use crate::fault::ManifestFault;
+use hex::FromHex;
+use serde_json::Value;
+
+/// The member of this name.
+pub(crate) fn member<'v>(value: &'v Value, name: &str) -> Result<&'v Value, ManifestFault>
+    ensures { Gives (λ v. view v.now) result (found (get name.now (view value.now))) }
+{
+    value.get(name).ok_or(ManifestFault::NotBuilt)
+}
+
+/// A whole number of 32 bits.
+pub(crate) fn number(value: &Value, name: &str) -> Result<u32, ManifestFault>
+    ensures { Gives (λ n. n) result (member_at number_at name.now (view value.now)) }
+{
+    match member(value, name)?.as_u64() {
+        Some(n) if n < 4_294_967_296 => Ok(n as u32),
+        _ => Err(ManifestFault::NotBuilt),
+    }
+}
+
+/// The id of a row: a number of at least 1.
+#[tactic(auto, unfolding(crate::specs::Reading::id_at))]
+pub(crate) fn id(value: &Value, name: &str) -> Result<u32, ManifestFault>
+    ensures gives { Gives (λ n. n) result (member_at id_at name.now (view value.now)) }
+    ensures sound { IfOk result IsId }
+{
+    let n = number(value, name)?;
+    if n > 0 {
+        Ok(n)
+    } else {
+        Err(ManifestFault::NotBuilt)
+    }
+}
+
+/// A digest of 16 bytes, as hexadecimal digits.
+#[tactic(auto, unfolding(crate::specs::Reading::digest_at))]
+pub(crate) fn digest(value: &Value, name: &str) -> Result<[u8; 16], ManifestFault>
+    ensures { Gives (λ d. d) result (member_at digest_at name.now (view value.now)) }
+{
+    let digits = member(value, name)?
+        .as_str()
+        .ok_or(ManifestFault::NotBuilt)?;
+    <[u8; 16] as FromHex>::from_hex(digits)
+        .ok()
+        .ok_or(ManifestFault::NotBuilt)
+}
+
+/// Minutes within 14 hours of UTC.
+pub(crate) fn minutes(value: &Value, name: &str) -> Result<i32, ManifestFault>
+    ensures gives { Gives (λ z. z) result (member_at minutes_at name.now (view value.now)) }
+    ensures sound { IfOk result IsMinutes }
+{
+    match member(value, name)?.as_i64() {
+        Some(minutes) if -840 <= minutes && minutes <= 840 => Ok(minutes as i32),
+        _ => Err(ManifestFault::NotBuilt),
+    }
+}
+
+/// The version of the text, which is 1.
+pub(crate) fn version(value: &Value, name: &str) -> Result<(), ManifestFault>
+    ensures { Gives (λ v. v) result (member_at version_at name.now (view value.now)) }
+{
+    if number(value, name)? == 1 {
+        Ok(())
+    } else {
+        Err(ManifestFault::NotBuilt)
+    }
+}
