@@ -1,0 +1,6 @@
+use Rattle.std.proofs.Common.{◌≡◌, length, refl}
+use Rattle.sg_resolver.proofs.Fixed.{length_front}
+use Rattle.sg_resolver.proofs.picture.Picture.is_empty.Goals as goal
+
+pub returns : goal.returns
+returns c = rw (← c.self.view_is, length_front c.self.inside.count 16 c.self.inside.entries c.self.invariant.0 c.self.invariant.1) refl

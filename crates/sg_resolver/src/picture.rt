@@ -1,0 +1,71 @@
+//! The picture of a layout.
+
+ghost use Rattle.std.specs.Prelude.{◌≡◌, ◌==◌, ◌<◌, [], ◌∷◌, ◌++◌, length, Some, slice_get};
+
+use sg_base::MediaId;
+use std::marker::Model;
+
+/// The most regions that a layout has.
+pub(crate) const ROOM: usize = 16;
+
+/// The medium of each region of a layout, in the layout's order: at most 16 entries, in fixed room.
+#[derive(Clone, Debug, Drop)]
+pub struct Picture {
+    entries: [(u32, MediaId); ROOM],
+    count: usize,
+}
+
+impl Model for Picture {
+    ghost use Rattle.std.specs.Prelude.{ℕ, ◌≡◌, ◌≤◌, List, take, length};
+    ghost use Rattle.sg_base.specs.declared.ids.MediaId.{MediaId};
+
+    ghost Value = { List (ℕ × MediaId) };
+
+    ghost view = { λ p. take p.count p.entries };
+
+    ghost invariant = { λ p. (p.count ≤ 16) × (length p.entries ≡ 16) };
+}
+
+impl Picture {
+    /// A picture with no entry.
+    pub(crate) fn new() -> Picture
+        ensures { result ≡ [] }
+    {
+        Picture {
+            entries: [(0, MediaId(0)); ROOM],
+            count: 0,
+        }
+    }
+
+    /// Adds an entry behind the others.
+    pub(crate) fn add(&mut self, region: u32, media: MediaId)
+        requires { length self.old < 16 }
+        ensures { self.new ≡ self.old ++ (region, media) ∷ [] }
+    {
+        self.entries[self.count] = (region, media);
+        self.count += 1;
+    }
+
+    /// How many entries there are.
+    pub fn len(&self) -> usize
+        ensures { result ≡ length self.now }
+    {
+        self.count
+    }
+
+    /// Whether there is no entry.
+    pub fn is_empty(&self) -> bool
+        ensures { result ≡ (length self.now == 0) }
+    {
+        self.count == 0
+    }
+
+    /// The entry at a place, counted from 0: a region and its medium.
+    pub fn at(&self, i: usize) -> (u32, MediaId)
+        requires { i < length self.now }
+        ensures { slice_get self.now i ≡ Some result }
+    {
+        let entries = &self.entries;
+        entries[i]
+    }
+}
