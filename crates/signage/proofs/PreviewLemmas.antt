@@ -1,0 +1,84 @@
+-- From the parts of a preview to the whole.
+use Rattle.std.proofs.Common.{◌≡◌, ℕ, ◌<◌, ◌≤◌, List, [], ◌∷◌, ◌++◌, length, take, get_or, Contains, ◌⊎◌, inl, inr, Result, Ok, Err, MatchResult, zero, suc, refl, sym, lit<, arith}
+use Rattle.sg_manifest.specs.Snapshot.{SnapshotRow}
+use Rattle.signage.specs.declared.stop.Stop.{Stop}
+use Rattle.signage.specs.declared.stop.Stop.TheVariants.{Usage, TooLong, NoManifest, Read, Memory}
+use Rattle.signage.specs.Texts.{memory_fault}
+use Rattle.signage.specs.Stop.{status_of, text_of}
+use Rattle.signage.specs.Lines.{lines_of}
+use Rattle.signage.specs.Preview.{Input, IsManifest, Reads, IsPreview, body_of}
+use Rattle.signage.specs.Loading.{ReadsSome, Stops, Refused}
+use Rattle.signage.specs.Printing.{IsTimeline}
+
+-- one of two statuses
+two_cases : (status k : ℕ) → k < 2 → get_or (0 ∷ 9 ∷ []) k status ≡ status → (status ≡ 0) ⊎ (status ≡ 9)
+two_cases status zero inside is = inl (sym is)
+two_cases status (suc zero) inside is = inr (sym is)
+two_cases status (suc (suc k)) inside is = absurd (omega arith)
+
+pub timeline_cases : (status : ℕ) → Contains (0 ∷ 9 ∷ []) status → (status ≡ 0) ⊎ (status ≡ 9)
+timeline_cases status known = two_cases status known.0 known.1 known.2
+
+-- every line
+pub all_lines : (s : SnapshotRow) (moments : List ℕ) → IsTimeline s moments 0 (lines_of s moments)
+all_lines s moments = record { known = (0, lit< tt, refl); all = λ e. refl; memory = λ e. absurd (omega (arith, e)) }
+
+-- some first lines, and want of memory
+pub first_lines : (s : SnapshotRow) (moments : List ℕ) (n : ℕ) → n ≤ length moments → IsTimeline s moments 9 (lines_of s (take n moments) ++ memory_fault)
+first_lines s moments n some = record { known = (1, lit< tt, refl); all = λ e. absurd (omega (arith, e)); memory = λ e. record { n = n; some = some; is = refl } }
+
+-- a timeline of the snapshot that was read is a preview
+pub previewed : (before after : Input) (s : SnapshotRow) (moments : List ℕ) → Reads before after s → (status : ℕ) (text : List ℕ) → IsTimeline s moments status text → IsPreview before after moments status text
+previewed before after s moments reads status text t = record {
+  known = elim (timeline_cases status t.known) [ inl e ↦ (0, lit< tt, sym e) | inr e ↦ (3, lit< tt, sym e) ];
+  shown = λ e. record { snapshot = s; reads = reads; lines = t.all e };
+  refused = λ e. absurd (elim (timeline_cases status t.known) [ inl z ↦ omega (arith, e, z) | inr z ↦ omega (arith, e, z) ]);
+  read = λ e. absurd (elim (timeline_cases status t.known) [ inl z ↦ omega (arith, e, z) | inr z ↦ omega (arith, e, z) ]);
+  memory = λ e. record {
+    lines = lines_of s (take (t.memory e).n moments);
+    some = inr (record { n = (t.memory e).n; some = (t.memory e).some; shows = record { snapshot = s; reads = reads; lines = refl } });
+    is = (t.memory e).is;
+  };
+}
+
+-- and so is a stop with its cause
+pub stop_preview : (before after : Input) (moments : List ℕ) (stop : Stop) → Stops before after stop → IsPreview before after moments (status_of stop) (text_of stop)
+stop_preview before after moments Usage h = absurd h
+stop_preview before after moments TooLong h = record {
+  known = (1, lit< tt, refl);
+  shown = λ e. absurd (omega (arith, e));
+  refused = λ e. inl (h, refl);
+  read = λ e. absurd (omega (arith, e));
+  memory = λ e. absurd (omega (arith, e));
+}
+stop_preview before after moments NoManifest h = record {
+  known = (1, lit< tt, refl);
+  shown = λ e. absurd (omega (arith, e));
+  refused = λ e. inr (h, refl);
+  read = λ e. absurd (omega (arith, e));
+  memory = λ e. absurd (omega (arith, e));
+}
+stop_preview before after moments Read h = record {
+  known = (2, lit< tt, refl);
+  shown = λ e. absurd (omega (arith, e));
+  refused = λ e. absurd (omega (arith, e));
+  read = λ e. (h, refl);
+  memory = λ e. absurd (omega (arith, e));
+}
+stop_preview before after moments Memory h = record {
+  known = (3, lit< tt, refl);
+  shown = λ e. absurd (omega (arith, e));
+  refused = λ e. absurd (omega (arith, e));
+  read = λ e. absurd (omega (arith, e));
+  memory = λ e. record { lines = []; some = inl refl; is = refl };
+}
+
+-- an input that was read, and what its bytes are
+pub loaded : (before after : Input) (input : List ℕ) (r : Result SnapshotRow Stop) → ReadsSome before.left after.left input → length input ≤ 1048577
+    → MatchResult r (λ s. IsManifest (body_of input) s) (λ stop. Refused (body_of input) stop) → MatchResult r (λ s. Reads before after s) (λ stop. Stops before after stop)
+loaded before after input (Ok s) some short is = record { input = input; taken = record { taken = some.taken; end = elim some.whole [ inl long ↦ absurd (omega (arith, long, short)) | inr e ↦ e ]; short = short }; is = is }
+loaded before after input (Err Usage) some short h = absurd h
+loaded before after input (Err TooLong) some short h = absurd h
+loaded before after input (Err NoManifest) some short h = record { input = input; taken = record { taken = some.taken; end = elim some.whole [ inl long ↦ absurd (omega (arith, long, short)) | inr e ↦ e ]; short = short }; no = h }
+loaded before after input (Err Read) some short h = absurd h
+loaded before after input (Err Memory) some short h = tt

@@ -1,0 +1,50 @@
+-- Words as moments.
+use Rattle.std.proofs.Common.{◌≡◌, ℕ, ◌+◌, ◌<◌, ◌≤◌, ◌^◌, List, [], ◌∷◌, ◌++◌, length, map, take, get_or, Option, Some, None, MatchOption, SomeIff, zero, suc, sym, ap, ◌∙◌, arith, refl}
+use Rattle.std.specs.Fmt.{decimal}
+use Rattle.std.proofs.lemmas.Fmt.{decimal_injective}
+use Rattle.std.proofs.lemmas.List.{take_more, map-append}
+use Rattle.signage.specs.Words.{IsMoment, AreMoments}
+
+-- a word that is the decimal of a number is a moment exactly where the number is
+pub moment_found : (r : Option ℕ) (word : List ℕ) (n : ℕ) → n < 2 ^ 32 → word ≡ decimal n → SomeIff r (n ≤ 4102444799) n → MatchOption r ((m : ℕ) → IsMoment word m → ⊥) (λ m. IsMoment word m)
+moment_found None word n fits is h = λ m moment.
+    let same : m ≡ n = decimal_injective m n (omega (arith, moment.bound)) (omega (arith, fits)) (sym moment.is ∙ is) in
+    h (omega (arith, moment.bound, same))
+moment_found (Some x) word n fits is h = record { bound = omega (arith, h.0, h.1); is = is ∙ ap decimal (sym h.1) }
+
+-- where one word is no moment, the words aren't moments
+pub no_moment : {X : Type 0} (f : X → List ℕ) (xs : List X) (i : ℕ) (x : X) (ms : List ℕ) → i < length xs → x ≡ get_or xs i x → ((m : ℕ) → IsMoment (f x) m → ⊥) → AreMoments (map f xs) ms → ⊥
+no_moment f [] i x ms inside is none are = omega arith
+no_moment f (y ∷ ys) zero x [] inside is none are = are
+no_moment f (y ∷ ys) zero x (m ∷ ms) inside is none are = none m (rw is are.0)
+no_moment f (y ∷ ys) (suc i) x [] inside is none are = are
+no_moment f (y ∷ ys) (suc i) x (m ∷ ms) inside is none are = no_moment f ys i x ms (omega arith) is none are.1
+
+-- one word more, and one moment more
+are_more : (ws : List (List ℕ)) (ms : List ℕ) (w : List ℕ) (m : ℕ) → AreMoments ws ms → IsMoment w m → AreMoments (ws ++ w ∷ []) (ms ++ m ∷ [])
+are_more [] [] w m are is = (is, tt)
+are_more [] (n ∷ ms) w m are is = absurd are
+are_more (v ∷ ws) [] w m are is = absurd are
+are_more (v ∷ ws) (n ∷ ms) w m are is = (are.0, are_more ws ms w m are.1 is)
+
+pub are_push : {X : Type 0} (f : X → List ℕ) (xs : List X) (i : ℕ) (x : X) (ms : List ℕ) (m : ℕ) → i < length xs → x ≡ get_or xs i x → AreMoments (map f (take i xs)) ms → IsMoment (f x) m → AreMoments (map f (take (i + 1) xs)) (ms ++ m ∷ [])
+are_push f xs i x ms m inside is are moment = rw (take_more xs i x inside, ← is, map-append) (are_more (map f (take i xs)) ms (f x) m are moment)
+
+-- there are as many moments as words
+pub length-AreMoments : {X : Type 0} (f : X → List ℕ) (xs : List X) (ms : List ℕ) → AreMoments (map f xs) ms → length ms ≡ length xs
+length-AreMoments f [] [] are = refl
+length-AreMoments f [] (m ∷ ms) are = absurd are
+length-AreMoments f (x ∷ xs) [] are = absurd are
+length-AreMoments f (x ∷ xs) (m ∷ ms) are = omega (arith, length-AreMoments f xs ms are.1)
+
+-- words name at most one list of moments
+pub one_list : (ws : List (List ℕ)) (ms ns : List ℕ) → AreMoments ws ms → AreMoments ws ns → ms ≡ ns
+one_list [] [] [] a b = refl
+one_list [] [] (n ∷ ns) a b = absurd b
+one_list [] (m ∷ ms) ns a b = absurd a
+one_list (w ∷ ws) [] ns a b = absurd a
+one_list (w ∷ ws) (m ∷ ms) [] a b = absurd b
+one_list (w ∷ ws) (m ∷ ms) (n ∷ ns) a b =
+    let same : m ≡ n = decimal_injective m n (omega (arith, a.0.bound)) (omega (arith, b.0.bound)) (sym a.0.is ∙ b.0.is) in
+    let rest : ms ≡ ns = one_list ws ms ns a.1 b.1 in
+    rw (same, rest) refl

@@ -1,0 +1,80 @@
+-- What `preview` does: it reads one manifest and writes one line for each moment.
+use Rattle.std.specs.Prelude.{◌≡◌, ℕ, ◌-◌, ◌<◌, ◌≤◌, ◌==◌, if◌then◌else◌, ◌⊎◌, List, [], ◌∷◌, ◌++◌, length, take, Contains, slice_index}
+use Rattle.std.specs.declared.option.Option.{Option}
+use Rattle.std.specs.Io.KnownBytes.{Consumes, IsAtEnd}
+use Rattle.sg_outside.specs.Causes.{Rose}
+use Rattle.sg_manifest.specs.Snapshot.{SnapshotRow, IsSnapshot}
+use Rattle.sg_manifest.specs.Built.{IsBuilt}
+use Rattle.sg_manifest.specs.Text.{text}
+use Rattle.signage.specs.Texts.{too_long, no_manifest, read_fault, memory_fault}
+use Rattle.signage.specs.Lines.{lines_of}
+
+-- a command's input at a time: the bytes left, where they are told, and the count of faults
+pub record Input : Type 0 where
+  pub left : Option (List ℕ)
+  pub faults : ℕ
+
+-- one final line feed is dropped
+abbrev pub body_of : List ℕ → List ℕ
+body_of input = if slice_index input (length input - 1) == 10 then take (length input - 1) input else input
+
+-- the bytes are the text of this valid snapshot, of a form that is read so far, within the limit of a text
+pub record IsManifest (bytes : List ℕ) (s : SnapshotRow) : Type 0 where
+  pub valid : IsSnapshot s
+  pub built : IsBuilt s
+  pub short : length bytes ≤ 1048576
+  pub is : bytes ≡ text s
+
+-- these bytes were taken, and nothing is left
+pub record TakesAll (before after : Input) (input : List ℕ) : Type 0 where
+  pub taken : Consumes before.left after.left input
+  pub end : IsAtEnd after.left
+  pub short : length input ≤ 1048577
+
+-- the whole input was read, and it is the manifest of this snapshot
+pub record Reads (before after : Input) (s : SnapshotRow) : Type 0 where
+  pub input : List ℕ
+  pub taken : TakesAll before after input
+  pub is : IsManifest (body_of input) s
+
+-- the line of each moment, by the snapshot whose text was read, and nothing else
+pub record Shows (before after : Input) (moments output : List ℕ) : Type 0 where
+  pub snapshot : SnapshotRow
+  pub reads : Reads before after snapshot
+  pub lines : output ≡ lines_of snapshot moments
+
+-- the lines of the first n moments
+pub record ShowsFirst (before after : Input) (moments output : List ℕ) : Type 0 where
+  pub n : ℕ
+  pub some : n ≤ length moments
+  pub shows : Shows before after (take n moments) output
+
+-- the input is too long
+pub record IsLong (before after : Input) : Type 0 where
+  pub input : List ℕ
+  pub taken : Consumes before.left after.left input
+  pub long : 1048577 < length input
+
+-- the whole input was read, and it is no manifest
+pub record IsRefused (before after : Input) : Type 0 where
+  pub input : List ℕ
+  pub taken : TakesAll before after input
+  pub no : (s : SnapshotRow) → IsManifest (body_of input) s → ⊥
+
+-- the reason for which an input is refused, with its text
+abbrev pub Refuses : Input → Input → List ℕ → Type 0
+Refuses before after output = (IsLong before after × (output ≡ too_long)) ⊎ (IsRefused before after × (output ≡ no_manifest))
+
+-- want of memory: after the lines of some first moments, or before any
+pub record RunsOut (before after : Input) (moments output : List ℕ) : Type 0 where
+  pub lines : List ℕ
+  pub some : (lines ≡ []) ⊎ ShowsFirst before after moments lines
+  pub is : output ≡ lines ++ memory_fault
+
+-- a preview's status and output
+pub record IsPreview (before after : Input) (moments : List ℕ) (status : ℕ) (output : List ℕ) : Type 0 where
+  pub known : Contains (0 ∷ 3 ∷ 4 ∷ 9 ∷ []) status
+  pub shown : status ≡ 0 → Shows before after moments output
+  pub refused : status ≡ 3 → Refuses before after output
+  pub read : status ≡ 4 → Rose before.faults after.faults × (output ≡ read_fault)
+  pub memory : status ≡ 9 → RunsOut before after moments output

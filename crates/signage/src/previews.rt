@@ -1,0 +1,106 @@
+//! `preview`: the timeline of one manifest at some moments.
+
+ghost use Rattle.std.specs.Prelude.{◌≡◌, ◌<◌, ◌≤◌, length, take, IfOk, OnOk, OnErr, MatchResult, string_bytes};
+ghost use Rattle.std.specs.Io.KnownBytes.{Appends};
+ghost use Rattle.sg_outside.specs.Causes.{Rose, HasCause};
+ghost use Rattle.sg_outside.specs.Streams.{AppendsPart};
+ghost use Rattle.sg_manifest.specs.Built.{IsBuilt};
+ghost use Rattle.signage.specs.Lines.{line_at, lines_of};
+ghost use Rattle.signage.specs.Preview.{Input, IsPreview};
+ghost use Rattle.signage.specs.Top.{Ends};
+ghost use Rattle.signage.specs.Printing.{Prints};
+
+use crate::input::load;
+use crate::lines::line;
+use crate::stop::{Stop, WRITE_FAULT, finish};
+use sg_base::{Moment, Steps};
+use sg_manifest::Snapshot;
+use sg_outside::{Sink, Source, put_all};
+use sg_resolver::Resolver;
+use std::alloc::{AllocError, Global};
+use std::marker::Brand;
+use std::sync::ledger::{Blank, Ledger};
+
+/// Reads one manifest and writes one line for each moment, by the slot and the picture of the snapshot. The
+/// answer is the status:
+/// - 0: the input was read to its end, and every line was written;
+/// - 3: the input is longer than 1,048,577 bytes, or no manifest of the form that is read so far;
+/// - 4: the source failed;
+/// - 5: the sink failed, and nothing was written after that;
+/// - 9: memory ran out, after the lines of some first moments or before any.
+pub fn preview<S: Source, O: Sink>(
+    alloc: Global,
+    moments: &[Moment],
+    source: &mut S,
+    out: &mut O,
+) -> u8
+    ensures { Ends
+        (IsPreview (record { left = S.left source.old; faults = S.faults source.old }) (record { left = S.left source.new; faults = S.faults source.new }) moments.now)
+        result (O.written out.old) (O.written out.new) (O.faults out.old) (O.faults out.new) }
+{
+    match load(alloc, source) {
+        Ok(snapshot) => show::<Brand, O>(Blank::new(1), alloc, &snapshot, moments, out),
+        Err(stop) => finish(out, stop),
+    }
+}
+
+/// Writes the lines of a snapshot, and answers the status.
+fn show<L: Ledger, O: Sink>(
+    blank: Blank,
+    alloc: Global,
+    snapshot: &Snapshot,
+    moments: &[Moment],
+    out: &mut O,
+) -> u8
+    requires name { blank.name ≡ L.name }
+    requires parts { blank.parts ≡ L.parts }
+    requires some { 0 < blank.parts }
+    requires built { IsBuilt snapshot.now }
+    ensures { Prints snapshot.now moments.now result (O.written out.old) (O.written out.new) (O.faults out.old) (O.faults out.new) }
+{
+    let mut steps = Steps::<L>::new(blank);
+    match Resolver::adopt(alloc, snapshot) {
+        Ok(mut resolver) => show_all(alloc, &mut resolver, moments, out, &mut steps),
+        Err(_) => finish(out, Stop::Memory),
+    }
+}
+
+/// Writes the line of each moment, and answers the status.
+fn show_all<L: Ledger, O: Sink>(
+    alloc: Global,
+    resolver: &mut Resolver,
+    moments: &[Moment],
+    out: &mut O,
+    steps: &mut Steps<L>,
+) -> u8
+    ensures { Prints resolver.old moments.now result (O.written out.old) (O.written out.new) (O.faults out.old) (O.faults out.new) }
+{
+    for moment in moments {
+        let text = match line_of(alloc, resolver, *moment, steps) {
+            Ok(text) => text,
+            Err(_) => return finish(out, Stop::Memory),
+        };
+        match put_all(out, text.as_str().as_bytes()) {
+            Ok(()) => {}
+            Err(_) => return WRITE_FAULT,
+        }
+    }
+    0
+}
+
+/// The line of a moment.
+#[tactic(auto, unfolding(crate::specs::Lines::line_at))]
+fn line_of<L: Ledger>(
+    alloc: Global,
+    resolver: &mut Resolver,
+    moment: Moment,
+    steps: &mut Steps<L>,
+) -> Result<String, AllocError>
+    ensures text { IfOk result (λ t. string_bytes t ≡ line_at resolver.old moment) }
+    ensures same { resolver.new ≡ resolver.old }
+{
+    let t = resolver.local(moment)?;
+    let show = resolver.show_at(t, steps);
+    let picture = resolver.picture(&show);
+    line(alloc, moment, &show, &picture)
+}

@@ -1,0 +1,62 @@
+//! The ends of a command that have a text of their own.
+
+ghost use Rattle.std.specs.Prelude.{◌≡◌, ◌≢◌, OnOk};
+ghost use Rattle.signage.specs.Stop.{status_of, text_of, Finishes};
+
+use sg_outside::{Sink, put_all};
+
+/// Why a command ends without having done its work.
+#[derive(Clone, Copy, Debug, PartialEq, Eq)]
+pub(crate) enum Stop {
+    /// The words aren't in the command table.
+    Usage,
+    /// The input has more bytes than a manifest may have.
+    TooLong,
+    /// The input is no manifest of the form that is read so far.
+    NoManifest,
+    /// The source failed.
+    Read,
+    /// Memory ran out.
+    Memory,
+}
+
+impl Stop {
+    /// The status that the command answers.
+    fn status(self) -> u8
+        ensures { result ≡ status_of self }
+    {
+        match self {
+            Stop::Usage => 2,
+            Stop::TooLong | Stop::NoManifest => 3,
+            Stop::Read => 4,
+            Stop::Memory => 9,
+        }
+    }
+
+    /// The line that the command writes.
+    #[tactic(auto, unfolding(crate::specs::Texts::usage, crate::specs::Texts::too_long, crate::specs::Texts::no_manifest, crate::specs::Texts::read_fault, crate::specs::Texts::memory_fault))]
+    fn text(self) -> &'static str
+        ensures { result.now ≡ text_of self }
+    {
+        match self {
+            Stop::Usage => "usage: signage preview|format|play|serve|edit|report|rehearse\n",
+            Stop::TooLong => "input: too long\n",
+            Stop::NoManifest => "input: manifest NotBuilt\n",
+            Stop::Read => "fault: read\n",
+            Stop::Memory => "fault: memory\n",
+        }
+    }
+}
+
+/// The status of a sink that failed.
+pub(crate) const WRITE_FAULT: u8 = 5;
+
+/// Writes a stop's line and answers its status, or 5 where the sink fails.
+pub(crate) fn finish<O: Sink>(out: &mut O, stop: Stop) -> u8
+    ensures { Finishes (status_of stop) (text_of stop) result (O.written out.old) (O.written out.new) (O.faults out.old) (O.faults out.new) }
+{
+    match put_all(out, stop.text().as_bytes()) {
+        Ok(()) => stop.status(),
+        Err(_) => WRITE_FAULT,
+    }
+}

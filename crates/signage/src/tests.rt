@@ -1,0 +1,299 @@
+use crate::placing::places;
+use crate::tops::{Outside, top};
+use sg_outside::{MemSink, MemSource};
+use std::alloc::Global;
+use std::process::Abort;
+use std::test::Fail;
+
+// A manifest of one layout of one medium.
+const PLAIN: &str =
+    r#"{"campaigns":[],"dayparts":[],"default":1,"events":[],"files":[{"id":1,"length":3,"md5":"900150983cd24fb0d6963f7d28e17f72"}],"layouts":[{"id":1,"regions":[{"id":1,"items":[{"media":1,"seconds":10}]}]}],"version":1,"zone":{"offset":0}}"#;
+
+// The same with a layout of seven seconds, in a zone an hour behind.
+const SEVEN: &str =
+    r#"{"campaigns":[],"dayparts":[],"default":1,"events":[],"files":[{"id":1,"length":3,"md5":"900150983cd24fb0d6963f7d28e17f72"}],"layouts":[{"id":1,"regions":[{"id":1,"items":[{"media":1,"seconds":7}]}]}],"version":1,"zone":{"offset":-60}}"#;
+
+const LINES: &str = "0 e0 l1 s0 o0 r1:m1\n3599 e0 l1 s3590 o9 r1:m1\n3600 e0 l1 s3600 o0 r1:m1\n";
+
+const USAGE: &str = "usage: signage preview|format|play|serve|edit|report|rehearse\n";
+
+const NOT_BUILT: &str = "input: manifest NotBuilt\n";
+
+// The words of a line, parted by single spaces.
+fn words_of(alloc: Global, line: &str) -> Result<Vec<String>, Fail> {
+    let mut words = Vec::new(alloc);
+    for word in line.split_whitespace() {
+        words.push(String::from_str(alloc, word)?)?;
+    }
+    Ok(words)
+}
+
+fn source_of(alloc: Global, text: &str) -> Result<MemSource, Fail> {
+    Ok(MemSource::new(alloc, Vec::from_slice(alloc, text.as_bytes())?))
+}
+
+// Runs the words over the input, and compares the status and the output.
+fn expect(
+    rt: &impl Abort,
+    alloc: Global,
+    line: &str,
+    source: MemSource,
+    out: MemSink,
+    status: u8,
+    text: &str,
+) -> Result<(), Fail> {
+    let words = words_of(alloc, line)?;
+    let mut outside = Outside { source, out };
+    let answer = top(alloc, words.as_slice(), &mut outside);
+    assert_eq!(rt; answer, status, "status of {line}");
+    assert_eq!(rt; outside.out.bytes(), text.as_bytes(), "output of {line}");
+    Ok(())
+}
+
+#[test]
+fn previews_worked_lines(rt: HostRuntime) -> Result<(), Fail> {
+    let alloc = rt.alloc();
+    let seven = "3599 e0 l1 s-2 o1 r1:m1\n7199 e0 l1 s3598 o1 r1:m1\n7200 e0 l1 s3600 o0 r1:m1\n";
+    for (manifest, words, text) in [
+        (PLAIN, "preview 0 3599 3600", LINES),
+        (SEVEN, "preview 3599 7199 7200", seven),
+        (
+            PLAIN,
+            "preview 4102444799",
+            "4102444799 e0 l1 s4102444790 o9 r1:m1\n",
+        ),
+    ] {
+        expect(
+            &rt,
+            alloc,
+            words,
+            source_of(alloc, manifest)?,
+            MemSink::new(alloc),
+            0,
+            text,
+        )?;
+    }
+    Ok(())
+}
+
+#[test]
+fn words_out_of_the_table_are_usage(rt: HostRuntime) -> Result<(), Fail> {
+    let alloc = rt.alloc();
+    for words in [
+        "",
+        "preview",
+        "preview 01",
+        "preview -1",
+        "preview +1",
+        "preview 4102444800",
+        "preview 4294967296",
+        "preview 0 x",
+        "previews 0",
+        "Preview 0",
+        "0",
+        "--help",
+        "format",
+        "play 0",
+    ] {
+        expect(
+            &rt,
+            alloc,
+            words,
+            source_of(alloc, PLAIN)?,
+            MemSink::new(alloc),
+            2,
+            USAGE,
+        )?;
+    }
+    Ok(())
+}
+
+#[test]
+fn refuses_what_is_no_manifest(rt: HostRuntime) -> Result<(), Fail> {
+    let alloc = rt.alloc();
+    for (from, to) in [
+        ("\"version\":1", "\"version\":3"),
+        ("{\"campaigns", "{ \"campaigns"),
+        ("\"default\":1", "\"default\":2"),
+        ("\"seconds\":10", "\"seconds\":0"),
+        ("\"seconds\":10", "\"seconds\":3601"),
+        ("\"media\":1", "\"media\":2"),
+        ("\"offset\":0", "\"offset\":841"),
+    ] {
+        let text = PLAIN.replacen(alloc, from, to, 1)?;
+        expect(
+            &rt,
+            alloc,
+            "preview 0",
+            source_of(alloc, text.as_str())?,
+            MemSink::new(alloc),
+            3,
+            NOT_BUILT,
+        )?;
+    }
+    expect(
+        &rt,
+        alloc,
+        "preview 0",
+        source_of(alloc, "{")?,
+        MemSink::new(alloc),
+        3,
+        NOT_BUILT,
+    )?;
+    expect(
+        &rt,
+        alloc,
+        "preview 0",
+        source_of(alloc, "")?,
+        MemSink::new(alloc),
+        3,
+        NOT_BUILT,
+    )
+}
+
+#[test]
+fn one_final_line_feed_is_dropped(rt: HostRuntime) -> Result<(), Fail> {
+    let alloc = rt.alloc();
+    let one = format!(in alloc; "{PLAIN}\n")?;
+    let two = format!(in alloc; "{PLAIN}\n\n")?;
+    expect(
+        &rt,
+        alloc,
+        "preview 0 3599 3600",
+        source_of(alloc, one.as_str())?,
+        MemSink::new(alloc),
+        0,
+        LINES,
+    )?;
+    expect(
+        &rt,
+        alloc,
+        "preview 0 3599 3600",
+        source_of(alloc, two.as_str())?,
+        MemSink::new(alloc),
+        3,
+        NOT_BUILT,
+    )
+}
+
+#[test]
+fn a_longer_input_is_too_long(rt: HostRuntime) -> Result<(), Fail> {
+    let alloc = rt.alloc();
+    let longest = MemSource::new(alloc, vec![in alloc; b' '; 1_048_577]?);
+    expect(
+        &rt,
+        alloc,
+        "preview 0",
+        longest,
+        MemSink::new(alloc),
+        3,
+        NOT_BUILT,
+    )?;
+    let longer = MemSource::new(alloc, vec![in alloc; b' '; 1_048_578]?);
+    expect(
+        &rt,
+        alloc,
+        "preview 0",
+        longer,
+        MemSink::new(alloc),
+        3,
+        "input: too long\n",
+    )
+}
+
+#[test]
+fn pieces_of_any_size_serve(rt: HostRuntime) -> Result<(), Fail> {
+    let alloc = rt.alloc();
+    for limit in 1..8 {
+        let source = source_of(alloc, PLAIN)?.with_limit(limit);
+        expect(
+            &rt,
+            alloc,
+            "preview 0 3599 3600",
+            source,
+            MemSink::new(alloc).with_limit(limit),
+            0,
+            LINES,
+        )?;
+    }
+    Ok(())
+}
+
+#[test]
+fn faults_have_their_status(rt: HostRuntime) -> Result<(), Fail> {
+    let alloc = rt.alloc();
+    let first = vec![in alloc; 1]?;
+    let source = source_of(alloc, PLAIN)?.with_failing(first);
+    expect(
+        &rt,
+        alloc,
+        "preview 0",
+        source,
+        MemSink::new(alloc),
+        4,
+        "fault: read\n",
+    )?;
+    let second = vec![in alloc; 2]?;
+    let source = source_of(alloc, PLAIN)?.with_failing(second);
+    expect(
+        &rt,
+        alloc,
+        "preview 0",
+        source,
+        MemSink::new(alloc),
+        4,
+        "fault: read\n",
+    )?;
+    let third = vec![in alloc; 3]?;
+    let source = source_of(alloc, PLAIN)?;
+    let out = MemSink::new(alloc).with_failing(third);
+    let two = "0 e0 l1 s0 o0 r1:m1\n3599 e0 l1 s3590 o9 r1:m1\n";
+    expect(&rt, alloc, "preview 0 3599 3600", source, out, 5, two)
+}
+
+// The text of a manifest of 512 layouts, of which the last is the default.
+fn of_most_layouts(alloc: Global) -> Result<String, Fail> {
+    let mut text = String::from_str(
+        alloc,
+        r#"{"campaigns":[],"dayparts":[],"default":512,"events":[],"files":[{"id":1,"length":3,"md5":"900150983cd24fb0d6963f7d28e17f72"}],"layouts":["#,
+    )?;
+    for id in 1..513u32 {
+        if id > 1 {
+            text.push_str(",")?;
+        }
+        let layout = format!(in alloc;
+            "{{\"id\":{id},\"regions\":[{{\"id\":2,\"items\":[{{\"media\":1,\"seconds\":{id}}}]}}]}}"
+        )?;
+        text.push_str(layout.as_str())?;
+    }
+    text.push_str(r#"],"version":1,"zone":{"offset":0}}"#)?;
+    Ok(text)
+}
+
+#[test]
+fn previews_most_layouts(rt: HostRuntime) -> Result<(), Fail> {
+    let alloc = rt.alloc();
+    let text = of_most_layouts(alloc)?;
+    expect(
+        &rt,
+        alloc,
+        "preview 511 512",
+        source_of(alloc, text.as_str())?,
+        MemSink::new(alloc),
+        0,
+        "511 e0 l512 s0 o511 r2:m1\n512 e0 l512 s512 o0 r2:m1\n",
+    )
+}
+
+#[test]
+fn places_are_empty(rt: HostRuntime) -> Result<(), Fail> {
+    let alloc = rt.alloc();
+    let words = words_of(alloc, "preview 0")?;
+    let places = places(alloc, words.as_slice())?;
+    let all = format!(in alloc;
+        "{}{}{}{}{}",
+        places.store, places.db, places.server, places.listen, places.panel
+    )?;
+    assert_eq!(rt; all.as_str(), "");
+    Ok(())
+}
