@@ -50,58 +50,100 @@ fn disk_after(alloc: Global, fuse: Fuse) -> Result<MemDisk, AllocError> {
     Ok(disk)
 }
 
-// For each call that the crash meets: the image with nothing of the unsynced calls, with all, and with the byte 1.
-const IMAGES: [(u64, &[u8], &[u8], &[u8]); 8] = [
-    (
-        0,
-        &[1, 2, 3, 4, 5, 6],
-        &[1, 7, 8, 4, 5, 6],
-        &[1, 1, 1, 4, 5, 6],
-    ),
-    (
-        1,
-        &[1, 2, 3, 4, 5, 6],
-        &[1, 7, 8, 4, 5, 6],
-        &[1, 1, 1, 4, 5, 6],
-    ),
-    (
-        2,
-        &[1, 7, 8, 4, 5, 6],
-        &[1, 7, 8, 4, 9, 9],
-        &[1, 7, 8, 4, 1, 1],
-    ),
-    (
-        3,
-        &[1, 7, 8, 4, 5, 6],
-        &[1, 7, 8, 4, 9, 9, 0, 0],
-        &[1, 7, 8, 4, 1, 1, 1, 1],
-    ),
-    (
-        4,
-        &[1, 7, 8, 4, 5, 6],
-        &[1, 7, 8, 4, 9, 9, 5, 5],
-        &[1, 7, 8, 4, 1, 1, 1, 1],
-    ),
-    (5, &[1, 7, 8, 4, 5, 6], &[1, 7, 8], &[1, 7, 8]),
-    (6, &[1, 7, 8, 4, 5, 6], &[1, 7, 8], &[1, 7, 8]),
-    (7, &[1, 7, 8], &[1, 7, 8], &[1, 7, 8]),
+// What a crash at a call may leave.
+struct Crash {
+    // The calls of the run that pass before it.
+    calls: u64,
+    // The image with nothing of the unsynced calls done, and with all of it.
+    nothing: &'static [u8],
+    all: &'static [u8],
+    // Those with this byte wherever an unsynced call wrote.
+    zeros: &'static [u8],
+    ones: &'static [u8],
+    full: &'static [u8],
+}
+
+const CRASHES: [Crash; 8] = [
+    Crash {
+        calls: 0,
+        nothing: &[1, 2, 3, 4, 5, 6],
+        all: &[1, 7, 8, 4, 5, 6],
+        zeros: &[1, 0, 0, 4, 5, 6],
+        ones: &[1, 1, 1, 4, 5, 6],
+        full: &[1, 255, 255, 4, 5, 6],
+    },
+    Crash {
+        calls: 1,
+        nothing: &[1, 2, 3, 4, 5, 6],
+        all: &[1, 7, 8, 4, 5, 6],
+        zeros: &[1, 0, 0, 4, 5, 6],
+        ones: &[1, 1, 1, 4, 5, 6],
+        full: &[1, 255, 255, 4, 5, 6],
+    },
+    Crash {
+        calls: 2,
+        nothing: &[1, 7, 8, 4, 5, 6],
+        all: &[1, 7, 8, 4, 9, 9],
+        zeros: &[1, 7, 8, 4, 0, 0],
+        ones: &[1, 7, 8, 4, 1, 1],
+        full: &[1, 7, 8, 4, 255, 255],
+    },
+    Crash {
+        calls: 3,
+        nothing: &[1, 7, 8, 4, 5, 6],
+        all: &[1, 7, 8, 4, 9, 9, 0, 0],
+        zeros: &[1, 7, 8, 4, 0, 0, 0, 0],
+        ones: &[1, 7, 8, 4, 1, 1, 1, 1],
+        full: &[1, 7, 8, 4, 255, 255, 255, 255],
+    },
+    Crash {
+        calls: 4,
+        nothing: &[1, 7, 8, 4, 5, 6],
+        all: &[1, 7, 8, 4, 9, 9, 5, 5],
+        zeros: &[1, 7, 8, 4, 0, 0, 0, 0],
+        ones: &[1, 7, 8, 4, 1, 1, 1, 1],
+        full: &[1, 7, 8, 4, 255, 255, 255, 255],
+    },
+    Crash {
+        calls: 5,
+        nothing: &[1, 7, 8, 4, 5, 6],
+        all: &[1, 7, 8],
+        zeros: &[1, 7, 8],
+        ones: &[1, 7, 8],
+        full: &[1, 7, 8],
+    },
+    Crash {
+        calls: 6,
+        nothing: &[1, 7, 8, 4, 5, 6],
+        all: &[1, 7, 8],
+        zeros: &[1, 7, 8],
+        ones: &[1, 7, 8],
+        full: &[1, 7, 8],
+    },
+    Crash {
+        calls: 7,
+        nothing: &[1, 7, 8],
+        all: &[1, 7, 8],
+        zeros: &[1, 7, 8],
+        ones: &[1, 7, 8],
+        full: &[1, 7, 8],
+    },
 ];
 
 #[test]
 fn a_crash_meets_each_call(rt: HostRuntime) -> Result<(), Fail> {
-    for (calls, nothing, all, ones) in IMAGES {
+    for crash in &CRASHES {
+        let calls = crash.calls;
         let disk = disk_after(rt.alloc(), Fuse::Crash(calls))?;
-        assert_eq!(rt;
-            disk.image(Pick::Nothing)?.as_slice(),
-            nothing,
-            "nothing at {calls}"
-        );
-        assert_eq!(rt; disk.image(Pick::All)?.as_slice(), all, "all at {calls}");
-        assert_eq!(rt;
-            disk.image(Pick::Byte(1))?.as_slice(),
-            ones,
-            "ones at {calls}"
-        );
+        for (pick, image) in [
+            (Pick::Nothing, crash.nothing),
+            (Pick::All, crash.all),
+            (Pick::Byte(0), crash.zeros),
+            (Pick::Byte(1), crash.ones),
+            (Pick::Byte(255), crash.full),
+        ] {
+            assert_eq!(rt; disk.image(pick)?.as_slice(), image, "{pick:?} at {calls}");
+        }
         assert_eq!(rt; disk.faults(), u64::from(calls < 7), "faults at {calls}");
         assert_eq!(rt; disk.fuse() == Fuse::Crashed, calls < 7, "fuse at {calls}");
     }
