@@ -9,16 +9,12 @@ use Rattle.hex.proofs.HexLemmas.{decode_sized-encode_lower}
 use Rattle.sg_base.specs.declared.layout.Item.{Item}
 use Rattle.sg_base.specs.declared.layout.Region.{Region}
 use Rattle.sg_base.specs.declared.file.Listed.{Listed}
-use Rattle.sg_base.specs.declared.zone.ZoneRule.{ZoneRule}
-use Rattle.sg_base.specs.declared.zone.ZoneRule.TheVariants.{Offset, Posix}
 use Rattle.sg_base.specs.Layout.{LayoutRow}
 use Rattle.sg_manifest.specs.declared.fault.ManifestFault.{ManifestFault}
-use Rattle.sg_manifest.specs.Zone.{IsZone, IsMinutes}
+use Rattle.sg_manifest.specs.Zone.{IsMinutes}
 use Rattle.sg_manifest.specs.Rows.{IsId, IsItem, IsRegion, IsLayoutRow, IsListed}
-use Rattle.sg_manifest.specs.Built.{IsFixed}
-use Rattle.sg_manifest.specs.Text.{whole, list_of, item_json, region_json, layout_json, file_json, zone_json}
-use Rattle.sg_manifest.proofs.ZoneLemmas.{minutes_of_zone}
-use Rattle.sg_manifest.specs.Reading.{number_at, id_at, list_at, item_at, region_at, layout_at, digest_at, file_at, minutes_at, zone_at}
+use Rattle.sg_manifest.specs.Text.{whole, list_of, item_json, region_json, layout_json, file_json}
+use Rattle.sg_manifest.specs.Reading.{number_at, id_at, list_at, item_at, region_at, layout_at, digest_at, file_at, minutes_at}
 
 -- each row reads again, and so does the list
 pub list_again : {A : Type 0} (f : A → Data) (g : Data → Result A ManifestFault) (P : A → Type 0) → ((x : A) → P x → g (f x) ≡ Ok x) → (xs : List A) → AllByRecursion P xs → list_at g (list_of f xs) ≡ Ok xs
@@ -60,8 +56,3 @@ minutes_again (pos n) h =
 minutes_again (negsuc n) h =
     let most : n ≤ 839 = omega (arith, ints, h.low) in
     rw (le-ltb 839 n most) refl
-
-pub zone_again : (z : ZoneRule) → IsZone z → IsFixed z → zone_at (zone_json z) ≡ Ok z
-unfolding zone_at
-zone_again (Offset z) h f = rw (minutes_again z (minutes_of_zone z h)) refl
-zone_again (Posix text) h f = absurd f

@@ -8,44 +8,18 @@ use Rattle.serde_json.specs.Data.{Data}
 use Rattle.serde_json.specs.Written.{has_float}
 use Rattle.sg_manifest.specs.declared.fault.ManifestFault.{ManifestFault}
 use Rattle.sg_manifest.specs.declared.fault.ManifestFault.TheVariants.{NotBuilt, Memory}
-use Rattle.sg_manifest.specs.Rows.{IsLayoutRow, IsListed}
 use Rattle.sg_manifest.specs.Snapshot.{SnapshotRow, IsSnapshot}
-use Rattle.sg_manifest.specs.Built.{IsBuilt, Reads}
+use Rattle.sg_manifest.specs.Built.{Reads}
 use Rattle.sg_manifest.specs.Fitting.{FitsTogether}
-use Rattle.sg_manifest.specs.Text.{list_of, layout_json, file_json, campaign_json, daypart_json, event_json, snapshot_json, text}
-use Rattle.sg_manifest.specs.Reading.{Fails, list_at, unread, file_at, layout_at, draft_at, parsed}
+use Rattle.sg_manifest.specs.Text.{snapshot_json, text}
+use Rattle.sg_manifest.specs.Reading.{Fails, parsed}
+use Rattle.sg_manifest.specs.Schedules.{draft_at}
 use Rattle.sg_manifest.proofs.CompactSound.{read-Sound, is_utf8-Sound, has_float-Sound}
 use Rattle.sg_manifest.proofs.SoundRows.{snapshot_sound}
-use Rattle.sg_manifest.proofs.AgainRows.{list_again, id_again, layout_again, file_again, zone_again}
+use Rattle.sg_manifest.proofs.WholeAgain.{draft_again}
 
--- an empty list reads again
-none_again : {A : Type 0} (f : A → Data) (xs : List A) → xs ≡ [] → list_at unread (list_of f xs) ≡ Ok xs
-none_again f [] e = refl
-none_again f (x ∷ xs) e = absurd (cc)
-
-pub draft_again : (s : SnapshotRow) → IsSnapshot s → IsBuilt s → draft_at (snapshot_json s) ≡ Ok s
-unfolding draft_at
-draft_again s h b =
-    rw (
-      zone_again s.zone h.zone b.zone,
-      id_again s.default.0 h.default,
-      list_again file_json file_at IsListed file_again s.files h.rows.files,
-      list_again layout_json layout_at IsLayoutRow layout_again s.layouts h.rows.layouts,
-      none_again campaign_json s.campaigns b.campaigns,
-      none_again daypart_json s.dayparts b.dayparts,
-      none_again event_json s.events b.events,
-    ) refl
-
-pub fits : (s : SnapshotRow) → IsSnapshot s → IsBuilt s → FitsTogether s
-fits s h b = record {
-  few_layouts = h.few.layouts;
-  few_files = h.few.files;
-  layouts = h.order.layouts;
-  files = h.order.files;
-  default = h.named.default;
-  media = h.named.media;
-  plain = b.layouts;
-}
+pub fits : (s : SnapshotRow) → IsSnapshot s → FitsTogether s
+fits s h = record { few = h.few; order = h.order; named = h.named }
 
 pub parsed_again : (s : SnapshotRow) → IsSnapshot s → parsed (text s) ≡ Ok (snapshot_json s)
 unfolding parsed text
@@ -65,9 +39,9 @@ not_refused true t s d e same fit = absurd (cc)
 not_refused false t s d e same fit = absurd (let true_one : IsTrue false = d.1 (subst FitsTogether (sym same) fit) in cc)
 
 -- what was read of a snapshot's JSON is the snapshot
-pub same_draft : (d : Data) (t s : SnapshotRow) → draft_at d ≡ Ok t → d ≡ snapshot_json s → IsSnapshot s → IsBuilt s → t ≡ s
-same_draft d t s e same h b =
-    let again = draft_again s h b in
+pub same_draft : (d : Data) (t s : SnapshotRow) → draft_at d ≡ Ok t → d ≡ snapshot_json s → IsSnapshot s → t ≡ s
+same_draft d t s e same h =
+    let again = draft_again s h in
     let both : Ok t ≡ Ok s = sym e ∙ (ap draft_at same ∙ again) in
     cc
 

@@ -3,8 +3,9 @@ pub mod CompactSound
 pub mod RowLemmas
 pub mod SearchLemmas
 pub mod ZoneLemmas
+pub mod DayLemmas
+pub mod ScheduleLemmas
 pub mod SoundRows
 pub mod AgainRows
-pub mod Laws
-pub mod WholeReading
 pub mod WholeAgain
+pub mod Laws

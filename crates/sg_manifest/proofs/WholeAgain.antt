@@ -1,7 +1,6 @@
--- The JSON of a valid snapshot of any kind reads as the snapshot, so its text is of no other.
-use Rattle.std.proofs.Common.{◌≡◌, ◌≢◌, ℕ, zero, suc, ◌^◌, ◌<◌, ◌==◌, ◌&&◌, Bool, true, false, Result, Ok, refl, sym, ap, ◌∙◌, lt-ltb, arith, eqb-true}
+-- The JSON of a valid snapshot reads as the snapshot, so its text is of no other.
+use Rattle.std.proofs.Common.{◌≡◌, ℕ, ◌^◌, ◌<◌, ◌≤◌, List, length, Result, Ok, refl, sym, ap, ◌∙◌, lt-ltb, arith}
 use Rattle.std.specs.Prelude.{Option, Some, None, IfSome}
-use Rattle.std.proofs.lemmas.Bool.{and_parts, eqb-false}
 use Rattle.serde_json.specs.Data.{string}
 use Rattle.serde_json.specs.Read.{read}
 use Rattle.sg_base.specs.declared.ids.LayoutId.{LayoutId}
@@ -16,7 +15,7 @@ use Rattle.sg_base.specs.declared.event.Target.TheVariants.{Layout, Campaign}
 use Rattle.sg_base.specs.declared.zone.ZoneRule.{ZoneRule}
 use Rattle.sg_base.specs.declared.zone.ZoneRule.TheVariants.{Offset, Posix}
 use Rattle.sg_base.specs.Daypart.{DaypartRow}
-use Rattle.sg_base.specs.Repeat.{RepeatRow}
+use Rattle.sg_base.specs.Repeat.{RepeatRow, IsRepeat}
 use Rattle.sg_base.specs.Event.{EventRow}
 use Rattle.sg_manifest.specs.declared.fault.ManifestFault.{ManifestFault}
 use Rattle.sg_manifest.specs.Zone.{IsZone}
@@ -24,25 +23,38 @@ use Rattle.sg_manifest.specs.Rows.{IsLayoutId, IsCampaignRow, IsException, IsDay
 use Rattle.sg_manifest.specs.Snapshot.{SnapshotRow, IsSnapshot}
 use Rattle.sg_manifest.specs.Text.{whole, layout_json, file_json, layout_id_json, campaign_json, exception_json, daypart_json, weekdays, unit_text, until_json, repeat_json, target_json, when_json, event_json, zone_json, snapshot_json, text}
 use Rattle.sg_manifest.specs.Reading.{number_at, layout_at, file_at}
-use Rattle.sg_manifest.proofs.WholeReading.{layout_id_at, campaign_at, window_at, exception_at, daypart_at, days_of, unit_at, nullable_at, repeat_at, target_at, custom_at, named_at, when_at, event_at, rule_at, whole_at}
-use Rattle.sg_manifest.proofs.ZoneLemmas.{minutes_of_zone}
+use Rattle.sg_manifest.specs.Schedules.{layout_id_at, some_layouts, campaign_at, window_at, small, exception_at, daypart_at, unit_at, nullable_at, repeat_at, target_at, custom_at, named_at, when_at, event_at, rule_at, zone_at, draft_at}
+use Rattle.sg_manifest.proofs.ZoneLemmas.{minutes_of_zone, telling_again}
+use Rattle.sg_manifest.proofs.DayLemmas.{days_again}
+use Rattle.sg_manifest.proofs.ScheduleLemmas.{daypart_rises}
 use Rattle.sg_manifest.proofs.CompactSound.{read-Sound}
-use Rattle.sg_manifest.proofs.SoundRows.{snapshot_sound, weekdays_small, IsSmall}
-use Rattle.sg_manifest.proofs.AgainRows.{list_again, number_again, id_again, layout_again, file_again, minutes_again}
+use Rattle.sg_manifest.proofs.SoundRows.{snapshot_sound}
+use Rattle.sg_manifest.proofs.AgainRows.{list_again, id_again, layout_again, file_again, minutes_again}
 
 layout_id_again : (l : LayoutId) → IsLayoutId l → layout_id_at (layout_id_json l) ≡ Ok l
 unfolding layout_id_at
 layout_id_again l h = rw (id_again l.0 h) refl
 
+some_again : (ls : List LayoutId) → 1 ≤ length ls → length ls ≤ 64 → some_layouts ls ≡ Ok ls
+some_again ls some few =
+    let low : 0 < length ls = omega (arith, some) in
+    let high : length ls < 65 = omega (arith, few) in
+    rw (lt-ltb 0 (length ls) low, lt-ltb (length ls) 65 high) refl
+
 campaign_again : (c : CampaignRow) → IsCampaignRow c → campaign_at (campaign_json c) ≡ Ok c
 unfolding campaign_at
-campaign_again c h = rw (id_again c.id.0 h.id, list_again layout_id_json layout_id_at IsLayoutId layout_id_again c.layouts h.layouts) refl
+campaign_again c h =
+    rw (
+      id_again c.id.0 h.id,
+      list_again layout_id_json layout_id_at IsLayoutId layout_id_again c.layouts h.layouts,
+      some_again c.layouts h.some h.few,
+    ) refl
 
 exception_again : (e : ℕ × Window) → IsException e → exception_at (exception_json e) ≡ Ok e
 unfolding exception_at window_at
 exception_again e h =
     let day : e.0 < 2 ^ 32 = omega (arith, h.day) in
-    rw (lt-ltb e.0 (2 ^ 32) day, lt-ltb e.1.start (2 ^ 32) h.window.start, lt-ltb e.1.end (2 ^ 32) h.window.end) refl
+    rw (lt-ltb e.0 (2 ^ 32) day, lt-ltb e.0 256 h.day, lt-ltb e.1.start (2 ^ 32) h.window.start, lt-ltb e.1.end (2 ^ 32) h.window.end) refl
 
 daypart_again : (d : DaypartRow) → IsDaypartRow d → daypart_at (daypart_json d) ≡ Ok d
 unfolding daypart_at window_at
@@ -52,28 +64,9 @@ daypart_again d h =
       lt-ltb d.window.start (2 ^ 32) h.window.start,
       lt-ltb d.window.end (2 ^ 32) h.window.end,
       list_again exception_json exception_at IsException exception_again d.exceptions h.exceptions,
+      daypart_rises d h.accepted,
+      h.accepted.sound,
     ) refl
-
--- what passes below a bound
-passes_below : (ℕ → Bool) → ℕ → Bool
-passes_below p zero = true
-passes_below p (suc n) = p n && passes_below p n
-
-here_or_below : (p : ℕ → Bool) (n k : ℕ) (b : Bool) → (n == k) ≡ b → p k ≡ true → (n < k → p n ≡ true) → n < suc k → p n ≡ true
-here_or_below p n k true e here below h = ap p (eqb-true n k e) ∙ here
-here_or_below p n k false e here below h = let other : n ≢ k = eqb-false n k e in below (omega arith)
-
-passes_at : (p : ℕ → Bool) (bound n : ℕ) → passes_below p bound ≡ true → n < bound → p n ≡ true
-unfolding passes_below
-passes_at p zero n e h = absurd (omega arith)
-passes_at p (suc k) n e h =
-    let parts = and_parts (p k) (passes_below p k) e in
-    here_or_below p n k (n == k) refl parts.0 (λ lt. passes_at p k n parts.1 lt) h
-
--- seven bits are the weekdays that they make
-days_again : (days : ℕ) → days < 2 ^ 7 → days_of (weekdays days) ≡ days
-unfolding passes_below
-days_again days h = eqb-true _ _ (passes_at (λ n. days_of (weekdays n) == n) 128 days refl h)
 
 unit_again : (u : RepeatUnit) → unit_at (string (unit_text u)) ≡ Ok u
 unit_again Hour = refl
@@ -86,17 +79,11 @@ until_again : (o : Option ℕ) → IfSome o (λ day. day < 2 ^ 32) → nullable_
 until_again None h = refl
 until_again (Some day) h = rw (lt-ltb day (2 ^ 32) h) refl
 
-repeat_again : (o : Option RepeatRow) → IfSome o IsRepeatRow → nullable_at repeat_at (repeat_json o) ≡ Ok o
+repeat_again : (o : Option RepeatRow) → IfSome o IsRepeatRow → IfSome o IsRepeat → nullable_at repeat_at (repeat_json o) ≡ Ok o
 unfolding repeat_at
-repeat_again None h = refl
-repeat_again (Some r) h =
-    rw (
-      list_again whole number_at IsSmall number_again (weekdays r.days) (weekdays_small r.days),
-      lt-ltb r.every (2 ^ 32) h.every,
-      unit_again r.unit,
-      until_again r.until h.until,
-      days_again r.days h.days,
-    ) refl
+repeat_again None h a = refl
+repeat_again (Some r) h a =
+    rw (days_again r.days h.days, lt-ltb r.every (2 ^ 32) h.every, unit_again r.unit, until_again r.until h.until, a.sound) refl
 
 target_again : (t : Target) → IsTarget t → target_at (target_json t) ≡ Ok t
 target_again (Layout id) h = rw (id_again id.0 h) refl
@@ -115,21 +102,26 @@ event_again e h =
       id_again e.id.0 h.id,
       lt-ltb e.order (2 ^ 32) h.order,
       lt-ltb e.priority (2 ^ 32) h.priority,
-      repeat_again e.repeat h.repeat,
+      repeat_again e.repeat h.repeat h.accepted.repeats,
       lt-ltb e.share (2 ^ 32) h.share,
       target_again e.target h.target,
       when_again e.when h.when,
+      h.accepted.sound,
     ) refl
 
 rule_again : (z : ZoneRule) → IsZone z → rule_at (zone_json z) ≡ Ok z
 rule_again (Offset z) h = rw (minutes_again z (minutes_of_zone z h)) refl
 rule_again (Posix text) h = refl
 
-whole_again : (s : SnapshotRow) → IsSnapshot s → whole_at (snapshot_json s) ≡ Ok s
-unfolding whole_at
-whole_again s h =
+zone_again : (z : ZoneRule) → IsZone z → zone_at (zone_json z) ≡ Ok z
+unfolding zone_at
+zone_again z h = rw (rule_again z h, telling_again z h) refl
+
+pub draft_again : (s : SnapshotRow) → IsSnapshot s → draft_at (snapshot_json s) ≡ Ok s
+unfolding draft_at
+draft_again s h =
     rw (
-      rule_again s.zone h.zone,
+      zone_again s.zone h.zone,
       id_again s.default.0 h.default,
       list_again file_json file_at IsListed file_again s.files h.rows.files,
       list_again layout_json layout_at IsLayoutRow layout_again s.layouts h.rows.layouts,
@@ -152,4 +144,4 @@ some_same x y e = cc
 pub text_injective : (s t : SnapshotRow) → IsSnapshot s → IsSnapshot t → text s ≡ text t → s ≡ t
 text_injective s t h i e =
     let jsons = some_same (snapshot_json s) (snapshot_json t) (sym (json_of_text s h) ∙ (ap read e ∙ json_of_text t i)) in
-    ok_same (whole_at (snapshot_json s)) s t (whole_again s h) (ap whole_at jsons ∙ whole_again t i)
+    ok_same (draft_at (snapshot_json s)) s t (draft_again s h) (ap draft_at jsons ∙ draft_again t i)

@@ -2,13 +2,18 @@
 use Rattle.std.proofs.Common.{◌≡◌, ℕ, ◌<◌, ◌≤◌, ◌&&◌, nat_le, Bool, true, false, List, [], ◌∷◌, ℤ, pos, negsuc, refl, arith}
 use Rattle.std.proofs.lemmas.Int.{ints}
 use Rattle.std.proofs.lemmas.Bool.{and_parts, le-ltb, ltb-false}
+use Rattle.std.proofs.lemmas.Str.{IsUtf8-from_ascii}
 use Rattle.std.proofs.lemmas.Str.Ascii.{IsAscii-nil, IsAscii-cons}
-use Rattle.std.specs.Prelude.{nat_lt, IsOk, IsAscii}
+use Rattle.std.specs.Prelude.{nat_lt, IsOk, IsAscii, IsUtf8, Result, Ok, Err}
 use Rattle.std.specs.List.{list_all}
 use borrow.Author.Tests.{leb-true}
 use Rattle.sg_base.specs.declared.zone.ZoneRule.TheVariants.{Offset, Posix}
-use Rattle.sg_calendar.specs.Zone.{is_text, zone_of_text}
+use Rattle.sg_base.specs.declared.zone.ZoneRule.{ZoneRule}
+use Rattle.sg_calendar.specs.Zone.{ZoneView, is_text, zone_of, zone_of_text}
+use Rattle.sg_calendar.specs.declared.zone.ZoneFault.{ZoneFault}
+use Rattle.sg_manifest.specs.declared.fault.ManifestFault.{ManifestFault}
 use Rattle.sg_manifest.specs.Zone.{IsZone, IsMinutes}
+use Rattle.sg_manifest.specs.Schedules.{telling}
 
 -- minutes within 14 hours are a zone
 pub zone_of_minutes : (z : ℤ) → IsMinutes z → IsZone (Offset z)
@@ -43,3 +48,14 @@ read_text text false e h = let refused : false ≡ true = rw e at h in absurd (c
 
 pub text_of_zone : (text : List ℕ) → IsZone (Posix text) → IsAscii text
 text_of_zone text h = read_text text (is_text text) refl h
+
+pub utf8_of_zone : (text : List ℕ) → IsZone (Posix text) → IsUtf8 text
+utf8_of_zone text h = IsUtf8-from_ascii text (text_of_zone text h)
+
+told : (r : Result ZoneView ZoneFault) (rule : ZoneRule) → IsOk r → telling r rule ≡ Ok rule
+told (Ok z) rule h = refl
+told (Err e) rule h = absurd (cc)
+
+-- a rule that tells a zone is the one that is kept
+pub telling_again : (rule : ZoneRule) → IsZone rule → telling (zone_of rule) rule ≡ Ok rule
+telling_again rule h = told (zone_of rule) rule h

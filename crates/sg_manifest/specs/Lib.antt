@@ -5,5 +5,6 @@ pub mod Text
 pub mod Sample
 pub mod Built
 pub mod Reading
+pub mod Schedules
 pub mod Compact
 pub mod Fitting

@@ -10,10 +10,7 @@ use Rattle.hex.specs.Hex.{decode_sized}
 use Rattle.sg_base.specs.declared.layout.Item.{Item}
 use Rattle.sg_base.specs.declared.layout.Region.{Region}
 use Rattle.sg_base.specs.declared.file.Listed.{Listed}
-use Rattle.sg_base.specs.declared.zone.ZoneRule.{ZoneRule}
-use Rattle.sg_base.specs.declared.zone.ZoneRule.TheVariants.{Offset}
 use Rattle.sg_base.specs.Layout.{LayoutRow, layout_fault}
-use Rattle.sg_manifest.specs.Snapshot.{SnapshotRow}
 use Rattle.sg_manifest.specs.declared.fault.ManifestFault.{ManifestFault}
 use Rattle.sg_manifest.specs.declared.fault.ManifestFault.TheVariants.{NotBuilt, Memory}
 
@@ -114,30 +111,9 @@ minutes z = if int_lt z (negsuc 839) || int_lt (pos 840) z then None else Some z
 abbrev pub minutes_at : Data → Result ℤ ManifestFault
 minutes_at d = found (option_and_then minutes (option_and_then as_i64 (as_number d)))
 
-unfoldable pub zone_at : Data → Result ZoneRule ManifestFault
-zone_at d = do
-  z ← member_at minutes_at (codes "offset") d
-  Ok (Offset z)
-
 -- the text's version is 1
 abbrev pub version_at : Data → Result (Unit {0}) ManifestFault
 version_at d = number_at d >>= (λ n. if n == 1 then Ok tt else Err NotBuilt)
-
--- no row of this kind is read so far
-abbrev pub unread : {A : Type 0} → Data → Result A ManifestFault
-unread d = Err NotBuilt
-
-unfoldable pub draft_at : Data → Result SnapshotRow ManifestFault
-draft_at d = do
-  version ← member_at version_at (codes "version") d
-  zone ← member_at zone_at (codes "zone") d
-  default ← member_at id_at (codes "default") d
-  files ← member_at (list_at file_at) (codes "files") d
-  layouts ← member_at (list_at layout_at) (codes "layouts") d
-  campaigns ← member_at (list_at unread) (codes "campaigns") d
-  dayparts ← member_at (list_at unread) (codes "dayparts") d
-  events ← member_at (list_at unread) (codes "events") d
-  Ok (record { zone = zone; default = record { 0 = default }; layouts = layouts; campaigns = campaigns; dayparts = dayparts; events = events; files = files })
 
 -- the JSON (RFC 8259) of the bytes
 unfoldable pub parsed : List ℕ → Result Data ManifestFault

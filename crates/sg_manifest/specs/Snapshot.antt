@@ -62,23 +62,35 @@ pub record IsInOrder (s : SnapshotRow) : Type 0 where
 abbrev pub HasMedia : List ℕ → Region → Type 0
 HasMedia files r = AllByRecursion (λ i. Contains files i.media.0) r.items
 
+-- each layout of the campaign is one of these
+abbrev pub HasLayouts : List ℕ → CampaignRow → Type 0
+HasLayouts layouts c = AllByRecursion (λ l. Contains layouts l.0) c.layouts
+
+-- the target is one of these layouts or campaigns
+abbrev pub IsTargetIn : List ℕ → List ℕ → Target → Type 0
+IsTargetIn layouts campaigns (Layout id) = Contains layouts id.0
+IsTargetIn layouts campaigns (Campaign id) = Contains campaigns id.0
+
+-- a daypart that is named is one of these
+abbrev pub IsWhenIn : List ℕ → When → Type 0
+IsWhenIn dayparts Always = Unit {0}
+IsWhenIn dayparts (Custom from to) = Unit {0}
+IsWhenIn dayparts (Named daypart date) = Contains dayparts daypart.0
+
 -- the target is a layout or a campaign of the snapshot
 abbrev pub HasTarget : SnapshotRow → Target → Type 0
-HasTarget s (Layout id) = Contains (layout_ids s) id.0
-HasTarget s (Campaign id) = Contains (campaign_ids s) id.0
+HasTarget s target = IsTargetIn (layout_ids s) (campaign_ids s) target
 
 -- a daypart that is named is one of the snapshot
 abbrev pub HasDaypart : SnapshotRow → When → Type 0
-HasDaypart s Always = Unit {0}
-HasDaypart s (Custom from to) = Unit {0}
-HasDaypart s (Named daypart date) = Contains (daypart_ids s) daypart.0
+HasDaypart s w = IsWhenIn (daypart_ids s) w
 
 -- what is named is there: the default layout, the layouts' media among the files, the campaigns' layouts,
 -- the events' targets and dayparts
 pub record HasAllNamed (s : SnapshotRow) : Type 0 where
   pub default : Contains (layout_ids s) s.default.0
   pub media : AllByRecursion (λ l. AllByRecursion (HasMedia (file_ids s)) l.regions) s.layouts
-  pub campaigns : AllByRecursion (λ c. AllByRecursion (λ l. Contains (layout_ids s) l.0) c.layouts) s.campaigns
+  pub campaigns : AllByRecursion (HasLayouts (layout_ids s)) s.campaigns
   pub targets : AllByRecursion (λ e. HasTarget s e.target) s.events
   pub dayparts : AllByRecursion (λ e. HasDaypart s e.when) s.events
 

@@ -6,8 +6,8 @@ use thiserror::Error;
 /// Why [`read`](crate::read) gives no snapshot.
 #[derive(Clone, Copy, Debug, PartialEq, Eq, Error)]
 pub enum ManifestFault {
-    /// The bytes aren't the text of a valid snapshot that is read so far.
-    #[error("this is no manifest that is read so far")]
+    /// The bytes aren't the text of a valid snapshot.
+    #[error("this is no valid manifest")]
     NotBuilt,
     /// Memory ran out.
     #[error("memory ran out")]

@@ -2,6 +2,7 @@
 
 ghost use Rattle.std.specs.Prelude.{◌≡◌, IfOk};
 ghost use Rattle.serde_json.specs.Find.{get};
+ghost use Rattle.sg_manifest.specs.Schedules.{has_member};
 ghost use Rattle.serde_json.specs.View.{view};
 ghost use Rattle.sg_manifest.specs.Reading.{Gives, found, member_at, number_at, id_at, digest_at, minutes_at, version_at};
 ghost use Rattle.sg_manifest.specs.Rows.{IsId};
@@ -18,11 +19,21 @@ pub(crate) fn member<'v>(value: &'v Value, name: &str) -> Result<&'v Value, Mani
     value.get(name).ok_or(ManifestFault::NotBuilt)
 }
 
-/// A whole number of 32 bits.
-pub(crate) fn number(value: &Value, name: &str) -> Result<u32, ManifestFault>
-    ensures { Gives (λ n. n) result (member_at number_at name.now (view value.now)) }
+/// Whether there is a member of this name.
+pub(crate) fn has(value: &Value, name: &str) -> bool
+    ensures { result ≡ has_member name.now (view value.now) }
 {
-    match member(value, name)?.as_u64() {
+    match value.get(name) {
+        Some(_) => true,
+        None => false,
+    }
+}
+
+/// A whole number of 32 bits.
+pub(crate) fn whole(value: &Value) -> Result<u32, ManifestFault>
+    ensures { Gives (λ n. n) result (number_at (view value.now)) }
+{
+    match value.as_u64() {
         Some(n) if n < 4_294_967_296 => Ok(n as u32),
         _ => Err(ManifestFault::NotBuilt),
     }
@@ -30,16 +41,31 @@ pub(crate) fn number(value: &Value, name: &str) -> Result<u32, ManifestFault>
 
 /// The id of a row: a number of at least 1.
 #[tactic(auto, unfolding(crate::specs::Reading::id_at))]
-pub(crate) fn id(value: &Value, name: &str) -> Result<u32, ManifestFault>
-    ensures gives { Gives (λ n. n) result (member_at id_at name.now (view value.now)) }
+pub(crate) fn whole_id(value: &Value) -> Result<u32, ManifestFault>
+    ensures gives { Gives (λ n. n) result (id_at (view value.now)) }
     ensures sound { IfOk result IsId }
 {
-    let n = number(value, name)?;
+    let n = whole(value)?;
     if n > 0 {
         Ok(n)
     } else {
         Err(ManifestFault::NotBuilt)
     }
+}
+
+/// The member of this name, a whole number of 32 bits.
+pub(crate) fn number(value: &Value, name: &str) -> Result<u32, ManifestFault>
+    ensures { Gives (λ n. n) result (member_at number_at name.now (view value.now)) }
+{
+    whole(member(value, name)?)
+}
+
+/// The member of this name, an id.
+pub(crate) fn id(value: &Value, name: &str) -> Result<u32, ManifestFault>
+    ensures gives { Gives (λ n. n) result (member_at id_at name.now (view value.now)) }
+    ensures sound { IfOk result IsId }
+{
+    whole_id(member(value, name)?)
 }
 
 /// A digest of 16 bytes, as hexadecimal digits.

@@ -35,9 +35,7 @@ fn parse(alloc: Global, bytes: &[u8]) -> Result<Value, ManifestFault>
 
 /// The valid snapshot that JSON says, in whatever order its members stand.
 fn snapshot_of(alloc: Global, value: &Value) -> Result<Snapshot, ManifestFault>
-    ensures built { IfOk result IsBuilt }
-    ensures only { (s : SnapshotRow) → IsSnapshot s → IsBuilt s → view value.now ≡ snapshot_json s
-        → Reads result s }
+    ensures only { (s : SnapshotRow) → IsSnapshot s → view value.now ≡ snapshot_json s → Reads result s }
 {
     let draft = Draft::read(alloc, value)?;
     if fit(alloc, &draft)? {
@@ -47,13 +45,12 @@ fn snapshot_of(alloc: Global, value: &Value) -> Result<Snapshot, ManifestFault>
     }
 }
 
-/// The snapshot whose canonical text the bytes are, as far as it is read so far: without events, campaigns and
-/// dayparts, each layout with one region of one item, and the zone a fixed offset. Any other bytes, and
-/// more than 1,048,576, are `NotBuilt`. The bytes are parsed once, and compared with the text written again.
+/// The snapshot whose canonical text the bytes are. Any other bytes, and more than 1,048,576, are `NotBuilt`. The
+/// bytes are parsed once, and compared with the text written again.
 pub fn read(alloc: Global, bytes: &[u8]) -> Result<Snapshot, ManifestFault>
     // What is read is the snapshot whose text the bytes are. That it is valid is a fact of its type, too.
     ensures found { IfOk result (λ s. IsSnapshot s × IsBuilt s × (bytes.now ≡ text s)) }
-    // The text of each valid snapshot of the built form is read, unless memory runs out.
+    // The text of each valid snapshot is read, unless memory runs out.
     ensures only { (s : SnapshotRow) → IsSnapshot s → IsBuilt s → length bytes.now ≤ 1048576
         → bytes.now ≡ text s → Reads result s }
     ensures long { 1048576 < length bytes.now → result ≡ Err NotBuilt }

@@ -11,7 +11,7 @@ const PLAIN: &str =
     r#"{"campaigns":[],"dayparts":[],"default":1,"events":[],"files":[{"id":1,"length":3,"md5":"900150983cd24fb0d6963f7d28e17f72"}],"layouts":[{"id":1,"regions":[{"id":1,"items":[{"media":1,"seconds":10}]}]}],"version":1,"zone":{"offset":0}}"#;
 
 /// What stands in the plain manifest, and what stands there in its place.
-const EDITS: [(&str, &str); 24] = [
+const EDITS: [(&str, &str); 26] = [
     ("{\"campaigns\"", "{"),
     ("{\"campaigns\"", "{ \"campaigns\""),
     ("\"version\":1", "\"version\":3"),
@@ -30,14 +30,84 @@ const EDITS: [(&str, &str); 24] = [
     ("\"offset\":0", "\"offset\":841"),
     ("\"offset\":0", "\"offset\":-841"),
     ("\"offset\":0", "\"offset\":-0"),
-    ("\"offset\":0", "\"posix\":\"UTC0\""),
+    ("\"offset\":0", "\"posix\":\"hello\""),
+    ("\"offset\":0", "\"posix\":\"\""),
     ("900150983cd2", "900150983CD2"),
     ("\"length\":3", "\"length\":0"),
     ("\"length\":3", "\"length\":67108865"),
     ("\"events\":[]", "\"events\":[1]"),
     (
-        "{\"media\":1,\"seconds\":10}",
-        "{\"media\":1,\"seconds\":5},{\"media\":1,\"seconds\":5}",
+        "\"campaigns\":[]",
+        "\"campaigns\":[{\"id\":1,\"layouts\":[]}]",
+    ),
+    (
+        "\"campaigns\":[]",
+        "\"campaigns\":[{\"id\":1,\"layouts\":[2]}]",
+    ),
+];
+
+/// Two layouts, of which one has two regions; a campaign, a daypart and three events; a zone that changes its clocks.
+const BUSY: &str =
+    r#"{"campaigns":[{"id":4,"layouts":[1,2,1]}],"dayparts":[{"end":0,"exceptions":[{"day":6,"end":75600,"start":36000}],"id":9,"start":28800}],"default":1,"events":[{"id":1,"order":0,"priority":65535,"repeat":null,"share":0,"target":{"layout":2},"when":{"always":true}},{"id":2,"order":3,"priority":0,"repeat":{"days":[1,5,7],"every":2,"unit":"week","until":19800},"share":0,"target":{"campaign":4},"when":{"date":19723,"daypart":9}},{"id":3,"order":1,"priority":0,"repeat":{"days":[],"every":1,"unit":"hour","until":null},"share":600,"target":{"layout":1},"when":{"from":1704067200,"to":1704070800}}],"files":[{"id":7,"length":3,"md5":"900150983cd24fb0d6963f7d28e17f72"}],"layouts":[{"id":1,"regions":[{"id":2,"items":[{"media":7,"seconds":10},{"media":7,"seconds":20}]},{"id":1,"items":[{"media":7,"seconds":5}]}]},{"id":2,"regions":[{"id":1,"items":[{"media":7,"seconds":3600}]}]}],"version":1,"zone":{"posix":"CET-1CEST,M3.5.0,M10.5.0/3"}}"#;
+
+/// What stands in the busy manifest, and what stands there in its place: each is refused.
+const BUSY_EDITS: [(&str, &str); 29] = [
+    ("\"priority\":65535", "\"priority\":65536"),
+    ("\"order\":3", "\"order\":65536"),
+    ("\"share\":600", "\"share\":3601"),
+    (
+        "\"share\":0,\"target\":{\"campaign\":4}",
+        "\"share\":1,\"target\":{\"campaign\":4}",
+    ),
+    ("\"to\":1704070800", "\"to\":1704067200"),
+    ("\"to\":1704070800", "\"to\":4102444801"),
+    ("\"date\":19723", "\"date\":47482"),
+    ("\"until\":19800", "\"until\":19722"),
+    ("\"until\":19800", "\"until\":47482"),
+    ("\"until\":null", "\"until\":19722"),
+    ("\"days\":[1,5,7]", "\"days\":[1,7,5]"),
+    ("\"days\":[1,5,7]", "\"days\":[1,1,5]"),
+    ("\"days\":[1,5,7]", "\"days\":[]"),
+    ("\"days\":[1,5,7]", "\"days\":[1,8]"),
+    ("\"days\":[1,5,7]", "\"days\":[0,1]"),
+    ("\"days\":[]", "\"days\":[1]"),
+    ("\"every\":2", "\"every\":1001"),
+    ("\"unit\":\"week\"", "\"unit\":\"weeks\""),
+    ("\"unit\":\"week\"", "\"unit\":\"hour\""),
+    ("\"day\":6", "\"day\":8"),
+    ("\"day\":6", "\"day\":262"),
+    (
+        "\"exceptions\":[",
+        "\"exceptions\":[{\"day\":6,\"end\":1,\"start\":0},",
+    ),
+    (
+        "\"exceptions\":[",
+        "\"exceptions\":[{\"day\":7,\"end\":1,\"start\":0},",
+    ),
+    ("\"start\":28800", "\"start\":86400"),
+    ("{\"layout\":2}", "{\"layout\":3}"),
+    ("{\"campaign\":4}", "{\"campaign\":5}"),
+    ("\"daypart\":9", "\"daypart\":8"),
+    ("\"layouts\":[1,2,1]", "\"layouts\":[1,3,1]"),
+    ("\"repeat\":null", "\"repeat\":{}"),
+];
+
+/// What stands in the busy manifest, and what may stand there too.
+const GOOD_EDITS: [(&str, &str); 9] = [
+    ("\"priority\":65535", "\"priority\":0"),
+    ("\"share\":600", "\"share\":3600"),
+    ("\"until\":19800", "\"until\":19723"),
+    ("\"until\":null", "\"until\":47481"),
+    ("\"days\":[1,5,7]", "\"days\":[1,2,3,4,5,6,7]"),
+    ("\"days\":[1,5,7]", "\"days\":[7]"),
+    (
+        "\"days\":[1,5,7],\"every\":2,\"unit\":\"week\"",
+        "\"days\":[],\"every\":1000,\"unit\":\"year\"",
+    ),
+    ("{\"layout\":1}", "{\"layout\":2}"),
+    (
+        "{\"posix\":\"CET-1CEST,M3.5.0,M10.5.0/3\"}",
+        "{\"offset\":840}",
     ),
 ];
 
@@ -85,6 +155,21 @@ fn refuse_edited(
 #[test]
 fn refused_edits(rt: HostRuntime) -> Result<(), Fail> {
     refuse_edited(&rt, rt.alloc(), PLAIN, EDITS.as_slice())
+}
+
+#[test]
+fn refused_busy_edits(rt: HostRuntime) -> Result<(), Fail> {
+    refuse_edited(&rt, rt.alloc(), BUSY, BUSY_EDITS.as_slice())
+}
+
+#[test]
+fn good_busy_edits(rt: HostRuntime) -> Result<(), Fail> {
+    for (old, new) in &GOOD_EDITS {
+        let other = edited(rt.alloc(), BUSY, old, new)?;
+        let snapshot = read(rt.alloc(), other.as_bytes())?;
+        assert_eq!(rt; snapshot.events().len(), 3, "{new}");
+    }
+    Ok(())
 }
 
 #[test]

@@ -12,13 +12,13 @@ returns-in_err-value-clause-only c = λ s h b few same.
 pub returns-in_err-snapshot-clause-only : goal.returns-in_err-snapshot-clause-only
 returns-in_err-snapshot-clause-only c = λ s h b few same.
     let p = err_from_is_err_and c.from_residual-in_err-snapshot.result c.from_residual-in_err-snapshot.ensures.1 in
-    rw (p.1, p.2) (c.in_err-snapshot.ensures.only s h b (same_value c.args.bytes.now _ s c.in_ok-value.ensures same h))
+    rw (p.1, p.2) (c.in_err-snapshot.ensures.only s h (same_value c.args.bytes.now _ s c.in_ok-value.ensures same h))
 
 pub returns-then-branch-clause-only : goal.returns-then-branch-clause-only
 returns-then-branch-clause-only c = λ s h b few same.
-    c.in_ok-snapshot.ensures.only s h b (same_value c.args.bytes.now _ s c.in_ok-value.ensures same h)
+    c.in_ok-snapshot.ensures.only s h (same_value c.args.bytes.now _ s c.in_ok-value.ensures same h)
 
 pub returns-else-branch-clause-only : goal.returns-else-branch-clause-only
 returns-else-branch-clause-only c = λ s h b few same.
-    let is_s = c.in_ok-snapshot.ensures.only s h b (same_value c.args.bytes.now _ s c.in_ok-value.ensures same h) in
+    let is_s = c.in_ok-snapshot.ensures.only s h (same_value c.args.bytes.now _ s c.in_ok-value.ensures same h) in
     not_where_false _ c.in_ok-is_text.field-0 c.in_ok-is_text.ensures c.if-branch.false (same ∙ ap text (sym is_s))
