@@ -1,13 +1,11 @@
 -- Worked examples: the definitions give what was worked out by hand. Each is proved by computing it.
-use Rattle.std.proofs.Common.{◌≡◌, ℕ, List, [], ◌∷◌, Option, Some, None, ℤ, pos, negsuc, refl}
+use Rattle.std.proofs.Common.{◌≡◌, ℕ, List, [], ◌∷◌, None, ℤ, pos, negsuc, refl}
 use Rattle.sg_base.specs.declared.ids.MediaId.{MediaId}
 use Rattle.sg_base.specs.declared.layout.Item.{Item}
-use Rattle.sg_base.specs.declared.layout.Region.{Region}
 use Rattle.sg_base.specs.declared.event.When.{When}
 use Rattle.sg_base.specs.declared.event.When.TheVariants.{Always, Custom, Named}
 use Rattle.sg_base.specs.declared.event.Target.{Target}
 use Rattle.sg_base.specs.declared.event.Target.TheVariants.{Layout, Campaign}
-use Rattle.sg_base.specs.declared.zone.ZoneRule.{ZoneRule}
 use Rattle.sg_base.specs.declared.zone.ZoneRule.TheVariants.{Offset}
 use Rattle.sg_base.specs.Layout.{LayoutRow}
 use Rattle.sg_base.specs.Event.{EventRow}

@@ -1,5 +1,8 @@
 pub mod Fixed
 pub mod Found
 pub mod Pictures
-pub mod Built
+pub mod OrderLemmas
+pub mod ListLemmas
+pub mod ValidLemmas
+pub mod ShownLemmas
 mod Examples

@@ -1,5 +1,5 @@
 -- A picture as its entries are added.
-use Rattle.std.proofs.Common.{◌≡◌, ℕ, ◌+◌, ◌<◌, List, [], ◌∷◌, ◌++◌, length, map, take, get_or, refl, sym}
+use Rattle.std.proofs.Common.{◌≡◌, ℕ, ◌+◌, ◌<◌, List, [], ◌∷◌, ◌++◌, length, map, take, get_or, refl}
 use Rattle.std.proofs.lemmas.List.{take_more, map-append}
 use Rattle.sg_base.specs.declared.ids.MediaId.{MediaId}
 use Rattle.sg_base.specs.declared.layout.Region.{Region}

@@ -2,3 +2,4 @@ pub mod Rows
 pub mod Lists
 pub mod Shown
 pub mod Ready
+pub mod Kind

@@ -1,16 +1,16 @@
 -- What a resolver keeps beside its snapshot.
-use Rattle.std.specs.Prelude.{◌≡◌, Ok}
+use Rattle.std.specs.Prelude.{◌≡◌, ℕ, ◌+◌, ◌*◌, ◌≤◌, List, length, Ok}
+use Rattle.sg_base.specs.Event.{EventRow}
 use Rattle.sg_calendar.specs.Zone.{ZoneView, zone_of}
-use Rattle.sg_voice.specs.declared.play.Play.{Play}
-use Rattle.sg_voice.specs.Hour.{IsPlay}
 use Rattle.sg_manifest.specs.Snapshot.{SnapshotRow, IsSnapshot}
-use Rattle.sg_manifest.specs.Built.{IsBuilt}
-use Rattle.sg_resolver.specs.Lists.{default_play}
+use Rattle.sg_resolver.specs.Lists.{in_order}
 
--- the zone is the one that the snapshot's rule tells, and the play is that of its default layout
-pub record IsReady (s : SnapshotRow) (told : ZoneView) (first : Play) : Type 0 where
+-- the zone is the one that the snapshot's rule tells, the events are kept in order, and there is room for all events to
+-- be active and shown, each with the 64 layouts of a campaign
+pub record IsReady (s : SnapshotRow) (told : ZoneView) (events : List EventRow) (listed_room plays_room interrupts_room : ℕ) : Type 0 where
   pub valid : IsSnapshot s
-  pub built : IsBuilt s
   pub zone : zone_of s.zone ≡ Ok told
-  pub default : first ≡ default_play s
-  pub play : IsPlay first
+  pub ordered : events ≡ in_order s.events
+  pub listed : length s.events ≤ listed_room
+  pub plays : 64 * length s.events + 1 ≤ plays_room
+  pub interrupts : length s.events ≤ interrupts_room

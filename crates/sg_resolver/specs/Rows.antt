@@ -1,16 +1,12 @@
 -- The rows that others name.
-use Rattle.std.specs.Prelude.{ℕ, ◌==◌, List, [], ◌∷◌, Option, Some, None, find}
+use Rattle.std.specs.Prelude.{ℕ, ◌==◌, List, [], ◌∷◌, Option, None, find}
 use Rattle.std.specs.Option.{option_map_or}
 use Rattle.sg_base.specs.declared.ids.LayoutId.{LayoutId}
-use Rattle.sg_base.specs.declared.ids.CampaignId.{CampaignId}
-use Rattle.sg_base.specs.declared.ids.DaypartId.{DaypartId}
 use Rattle.sg_base.specs.declared.layout.Region.{Region}
-use Rattle.sg_base.specs.declared.campaign.Campaign.{Campaign as CampaignRow}
 use Rattle.sg_base.specs.declared.event.When.{When}
 use Rattle.sg_base.specs.declared.event.When.TheVariants.{Always, Custom, Named}
 use Rattle.sg_base.specs.declared.event.Target.{Target}
 use Rattle.sg_base.specs.declared.event.Target.TheVariants.{Layout, Campaign}
-use Rattle.sg_base.specs.Layout.{LayoutRow, longest}
 use Rattle.sg_base.specs.Daypart.{DaypartRow}
 use Rattle.sg_manifest.specs.Snapshot.{SnapshotRow}
 

@@ -10,6 +10,9 @@ pub use picture::Picture;
 pub use resolver::Resolver;
 pub use show::Show;
 
+mod lists;
+mod lookup;
+mod order;
 mod picture;
 mod resolver;
 mod show;

@@ -1,13 +1,16 @@
 //! A snapshot, ready to be asked what it shows.
 
-ghost use Rattle.std.specs.Prelude.{◌≡◌, ◌==◌, ℕ, ◌+◌, ◌<◌, ◌≤◌, List, length, map, find, Contains, Some, Ok, IfOk, IsOk, option_copied, [], ℤ, pos, neg_ℤ, ◌≤ℤ◌, ◌<ℤ◌};
+ghost use Rattle.std.specs.Prelude.{◌≡◌, ◌==◌, ℕ, ◌+◌, ◌<◌, ◌≤◌, List, length, map, Contains, Ok, IfOk, IsOk, option_copied, [], ℤ, pos, neg_ℤ, ◌≤ℤ◌, ◌<ℤ◌};
 
+use crate::lists::{list_interrupts, list_normal};
+use crate::lookup::layout_with;
+use crate::order::sorted;
 use crate::picture::Picture;
 use crate::show::Show;
-use sg_base::{Layout, LocalSec, Moment, Steps};
+use sg_base::{Event, Layout, LocalSec, Moment, Steps};
 use sg_calendar::Zone;
 use sg_manifest::Snapshot;
-use sg_voice::{Loop, Play, Slot, build_loop, slot_at};
+use sg_voice::{Interrupt, Loop, Play, Slot, build_loop, slot_at};
 use std::alloc::{AllocError, Global};
 use std::marker::Model;
 use std::sync::ledger::Ledger;
@@ -15,18 +18,25 @@ use std::sync::ledger::Ledger;
 /// The seconds of an hour.
 const HOUR: i64 = 3600;
 
+/// The most layouts of a campaign.
+const CAMPAIGN: usize = 64;
+
 /// A snapshot with the room that its answers need, taken once.
 #[derive(Debug, Drop)]
 pub struct Resolver {
     snapshot: Snapshot,
     zone: Zone,
-    // the default layout's play
-    default: Play,
-    // room for the loop of an hour
+    // the events by order and id
+    ordered: Vec<Event>,
+    // room for the active events, for their plays and interrupts, and for the loop of an hour
+    listed: Vec<Event>,
+    plays: Vec<Play>,
+    interrupts: Vec<Interrupt>,
     hour: Loop,
 }
 
 impl Model for Resolver {
+    ghost use Rattle.std.specs.Prelude.{vec_capacity};
     ghost use Rattle.sg_manifest.specs.Snapshot.{SnapshotRow};
     ghost use Rattle.sg_resolver.specs.Ready.{IsReady};
 
@@ -34,33 +44,38 @@ impl Model for Resolver {
 
     ghost view = { λ r. r.snapshot };
 
-    ghost invariant = { λ r. IsReady r.snapshot r.zone r.default };
+    ghost invariant = { λ r. IsReady r.snapshot r.zone r.ordered.items (vec_capacity r.listed) (vec_capacity r.plays) (vec_capacity r.interrupts) };
 }
 
 impl Resolver {
     ghost use Rattle.sg_calendar.specs.Zone.{zone_of};
     ghost use Rattle.sg_manifest.specs.Snapshot.{IsSnapshot, layout_ids};
-    ghost use Rattle.sg_manifest.specs.Built.{IsBuilt};
     ghost use Rattle.sg_resolver.specs.Shown.{local_of, shown, IsShown, picture_of};
 
     /// Makes a snapshot ready. All the memory that later answers need is taken here.
     pub fn adopt(alloc: Global, s: &Snapshot) -> Result<Resolver, AllocError>
-        requires { IsBuilt s.now }
         ensures { IfOk result (λ r. r ≡ s.now) }
     {
         let zone = zone_told(s);
-        let default = play_of_default(s);
+        let count = s.events().len();
+        let ordered = sorted(alloc, s.events())?;
+        let listed = Vec::with_capacity(alloc, count)?;
+        let plays = Vec::with_capacity(alloc, CAMPAIGN * count + 1)?;
+        let interrupts = Vec::with_capacity(alloc, count)?;
         let snapshot = s.clone()?;
         let hour = Loop::reserve(alloc)?;
         Ok(Resolver {
             snapshot,
             zone,
-            default,
+            ordered,
+            listed,
+            plays,
+            interrupts,
             hour,
         })
     }
 
-    /// The local second of a moment, by the snapshot's zone. It is never refused for a fixed offset.
+    /// The local second of a moment, by the snapshot's zone. It takes no memory, so it is always `Ok`.
     pub fn local(&self, moment: Moment) -> Result<LocalSec, AllocError>
         ensures given { IsOk result }
         ensures value { IfOk result (λ t. t ≡ local_of self.now moment) }
@@ -81,8 +96,27 @@ impl Resolver {
         ensures same { self.new ≡ self.old }
         ensures ticks { steps.new ≤ steps.old + length self.old.events }
     {
+        list_normal(
+            &self.snapshot,
+            self.ordered.as_slice(),
+            t,
+            steps,
+            &mut self.listed,
+            &mut self.plays,
+        );
+        list_interrupts(
+            &self.snapshot,
+            t,
+            steps,
+            &mut self.listed,
+            &mut self.interrupts,
+        );
+        build_loop(
+            self.plays.as_slice(),
+            self.interrupts.as_slice(),
+            &mut self.hour,
+        );
         let place = place_in_hour(t);
-        build_loop(&[self.default], &[], &mut self.hour);
         let slot = slot_at(&self.hour, place);
         show_of(t, place, slot)
     }
@@ -93,7 +127,7 @@ impl Resolver {
         ensures { result ≡ picture_of self.now show.now }
     {
         let mut picture = Picture::new();
-        if let Some(layout) = layout_with(self.snapshot.layouts(), show.layout) {
+        if let Some(layout) = layout_with(&self.snapshot, show.layout) {
             fill(&mut picture, layout, show.offset);
         }
         picture
@@ -102,9 +136,6 @@ impl Resolver {
 
 ghost use Rattle.sg_base.specs.Layout.{LayoutRow, longest, medium_at};
 ghost use Rattle.sg_calendar.specs.Zone.{zone_of};
-ghost use Rattle.sg_voice.specs.Hour.{IsPlay};
-ghost use Rattle.sg_manifest.specs.Built.{IsBuilt};
-ghost use Rattle.sg_resolver.specs.Lists.{default_play};
 ghost use Rattle.sg_resolver.specs.Shown.{place_of, show_of as show_of_slot};
 
 // The zone of a valid snapshot's rule.
@@ -115,29 +146,6 @@ fn zone_told(s: &Snapshot) -> Zone
         Ok(zone) => zone,
         Err(_) => unreachable!(),
     }
-}
-
-// The default layout's play. Each valid snapshot has its default layout.
-fn play_of_default(s: &Snapshot) -> Play
-    ensures value { result ≡ default_play s.now }
-    ensures valid { IsPlay result }
-{
-    let id = s.default().0;
-    match layout_with(s.layouts(), id) {
-        Some(layout) => Play {
-            event: 0,
-            layout: id,
-            seconds: layout.duration(),
-        },
-        None => unreachable!(),
-    }
-}
-
-// The layout with this id, of at most 512.
-fn layout_with(layouts: &[Layout], id: u32) -> Option<&Layout>
-    ensures { option_copied result ≡ find (λ l. l.id.0 == id) layouts.now }
-{
-    layouts.iter().find(|l| l.id().0 == id)
 }
 
 // The second of its hour at which a local second stands.

@@ -1,7 +1,6 @@
 -- The entry that is added is that of the region at the loop's index.
-use Rattle.std.proofs.Common.{◌≡◌, ◌<◌, length, Some, slice_get, refl}
+use Rattle.std.proofs.Common.{◌<◌, length, refl}
 use Rattle.std.proofs.lemmas.Option.{slice_get_read}
-use Rattle.sg_base.specs.Layout.{medium_at}
 use Rattle.sg_resolver.proofs.Pictures.{one_more}
 use Rattle.sg_resolver.proofs.resolver.fill.Goals as goal
 

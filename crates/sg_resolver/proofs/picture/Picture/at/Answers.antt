@@ -1,4 +1,4 @@
-use Rattle.std.proofs.Common.{◌≡◌, ◌<◌, length, arith}
+use Rattle.std.proofs.Common.{◌<◌}
 use Rattle.sg_resolver.proofs.Fixed.{length_front, front_at}
 use Rattle.sg_resolver.proofs.picture.Picture.at.Goals as goal
 

@@ -1,4 +1,4 @@
-use Rattle.std.proofs.Common.{◌≡◌, length, refl}
+use Rattle.std.proofs.Common.{refl}
 use Rattle.sg_resolver.proofs.Fixed.{length_front}
 use Rattle.sg_resolver.proofs.picture.Picture.is_empty.Goals as goal
 

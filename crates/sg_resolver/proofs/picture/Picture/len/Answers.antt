@@ -1,4 +1,4 @@
-use Rattle.std.proofs.Common.{◌≡◌, length, sym}
+use Rattle.std.proofs.Common.{sym}
 use Rattle.sg_resolver.proofs.Fixed.{length_front}
 use Rattle.sg_resolver.proofs.picture.Picture.len.Goals as goal
 

@@ -1,0 +1,33 @@
+-- One event further, the rest of the events is that event and what comes after it.
+use Rattle.std.proofs.Common.{◌≡◌, ◌==◌, ◌+◌, ◌<◌, List, ◌∷◌, ◌++◌, length, drop, filter, ap, ◌∙◌, sym, arith}
+use Rattle.std.specs.List.{flat_map}
+use Rattle.std.proofs.lemmas.List.{append-nil}
+use Rattle.std.proofs.lemmas.Bool.Decides.{nat_tests}
+use Rattle.std.proofs.Math.ListN.{drop_of_length-le}
+use Rattle.sg_base.specs.Event.{EventRow}
+use Rattle.sg_resolver.specs.Lists.{plays_of}
+use Rattle.sg_resolver.proofs.ListLemmas.{drop_here, plays_highest}
+use Rattle.sg_resolver.proofs.lists.list_plays.Goals as goal
+
+pub loop-event-preserved : goal.loop-event-preserved
+loop-event-preserved c =
+    let i = c.loop-event.event-index in
+    let es = c.args.events.now in
+    let e = c.event-item.result in
+    let top = c.top_priority-top.result in
+    let next : drop i es ≡ e ∷ drop (i + 1) es = drop_here es i e c.loop-event-test.true c.event-item.is in
+    record {
+      items = c.offer_plays.ensures.items (drop (i + 1) es)
+          ∙ (ap (λ (xs : List EventRow). c.loop-event.plays.items ++ flat_map (plays_of c.args.s.now) (filter (λ f. f.priority == top) xs)) (sym next) ∙ c.loop-event.invariant.items);
+      few = omega (arith, c.offer_plays.ensures.few, c.loop-event.invariant.few);
+      room = omega (arith, c.offer_plays.ensures.room, c.loop-event.invariant.room);
+    }
+
+pub returns-clause-items : goal.returns-clause-items
+returns-clause-items c =
+    let es = c.args.events.now in
+    let top = c.top_priority-top.result in
+    let some : 0 < length es = grind (arith, nat_tests) in
+    let past = drop_of_length-le es c.loop-event-test.false in
+    let all = ap (λ (xs : List EventRow). c.loop-event.plays.items ++ flat_map (plays_of c.args.s.now) (filter (λ f. f.priority == top) xs)) past in
+    sym (append-nil c.loop-event.plays.items) ∙ (sym all ∙ (c.loop-event.invariant.items ∙ plays_highest c.args.s.now es top some c.top_priority-top.ensures))
