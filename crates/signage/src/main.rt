@@ -25,6 +25,8 @@ mod stop;
 #[cfg(test)]
 mod tests;
 mod tops;
+#[cfg(test)]
+mod worked;
 
 fn main(rt: HostRuntime) -> ExitCode {
     let mut outside = Outside {

@@ -28,12 +28,12 @@ fn words_of(alloc: Global, line: &str) -> Result<Vec<String>, Fail> {
     Ok(words)
 }
 
-fn source_of(alloc: Global, text: &str) -> Result<MemSource, Fail> {
+pub(crate) fn source_of(alloc: Global, text: &str) -> Result<MemSource, Fail> {
     Ok(MemSource::new(alloc, Vec::from_slice(alloc, text.as_bytes())?))
 }
 
 // Runs the words over the input, and compares the status and the output.
-fn expect(
+pub(crate) fn expect(
     rt: &impl Abort,
     alloc: Global,
     line: &str,
