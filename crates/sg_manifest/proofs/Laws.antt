@@ -1,22 +1,21 @@
 -- The text of a valid snapshot reads as the snapshot.
-use Rattle.std.proofs.Common.{◌≡◌, ℕ, List, [], ◌∷◌, Result, Ok, Err, Bool, true, false, IsTrue, ◌↔◌, refl, sym, ap, subst, ◌∙◌}
+use Rattle.std.proofs.Common.{◌≡◌, ℕ, List, Result, Ok, Err, Bool, true, false, IsTrue, ◌↔◌, refl, sym, ap, subst, ◌∙◌}
 use Rattle.std.specs.Prelude.{IsUtf8, Some, None}
 use Rattle.std.specs.Str.{is_utf8}
 use Rattle.std.proofs.lemmas.Str.{IsUtf8-from_is_utf8, is_utf8-from_IsUtf8}
 use Rattle.serde_json.specs.Read.{read}
 use Rattle.serde_json.specs.Data.{Data}
 use Rattle.serde_json.specs.Written.{has_float}
-use Rattle.sg_manifest.specs.declared.fault.ManifestFault.{ManifestFault}
-use Rattle.sg_manifest.specs.declared.fault.ManifestFault.TheVariants.{NotBuilt, Memory}
+use Rattle.sg_rows.specs.declared.fault.ManifestFault.{ManifestFault}
+use Rattle.sg_rows.specs.declared.fault.ManifestFault.TheVariants.{NotBuilt, Memory}
 use Rattle.sg_manifest.specs.Snapshot.{SnapshotRow, IsSnapshot}
-use Rattle.sg_manifest.specs.Built.{Reads}
+use Rattle.sg_manifest.specs.Answer.{Reads}
 use Rattle.sg_manifest.specs.Fitting.{FitsTogether}
 use Rattle.sg_manifest.specs.Text.{snapshot_json, text}
-use Rattle.sg_manifest.specs.Reading.{Fails, parsed}
-use Rattle.sg_manifest.specs.Schedules.{draft_at}
-use Rattle.sg_manifest.proofs.CompactSound.{read-Sound, is_utf8-Sound, has_float-Sound}
-use Rattle.sg_manifest.proofs.SoundRows.{snapshot_sound}
-use Rattle.sg_manifest.proofs.WholeAgain.{draft_again}
+use Rattle.sg_manifest.specs.Reading.{parsed, draft_at}
+use Rattle.sg_rows.specs.Reading.{Fails}
+use Rattle.sg_rows.proofs.CompactSound.{read-Sound, is_utf8-Sound, has_float-Sound}
+use Rattle.sg_manifest.proofs.WholeAgain.{draft_again, snapshot_sound}
 
 pub fits : (s : SnapshotRow) → IsSnapshot s → FitsTogether s
 fits s h = record { few = h.few; order = h.order; named = h.named }

@@ -1,11 +1,3 @@
-pub mod Compact
-pub mod CompactSound
-pub mod RowLemmas
 pub mod SearchLemmas
-pub mod ZoneLemmas
-pub mod DayLemmas
-pub mod ScheduleLemmas
-pub mod SoundRows
-pub mod AgainRows
 pub mod WholeAgain
 pub mod Laws

@@ -1,121 +1,38 @@
--- The JSON of a valid snapshot reads as the snapshot, so its text is of no other.
-use Rattle.std.proofs.Common.{◌≡◌, ℕ, ◌^◌, ◌<◌, ◌≤◌, List, length, Result, Ok, refl, sym, ap, ◌∙◌, lt-ltb, arith}
-use Rattle.std.specs.Prelude.{Option, Some, None, IfSome}
-use Rattle.serde_json.specs.Data.{string}
+-- The JSON of a valid snapshot is plain and reads as the snapshot, so its text is of no other.
+use Rattle.std.proofs.Common.{◌≡◌, Result, Ok, refl, sym, ap, ◌∙◌, arith}
+use Rattle.std.specs.Prelude.{Some}
 use Rattle.serde_json.specs.Read.{read}
-use Rattle.sg_base.specs.declared.ids.LayoutId.{LayoutId}
-use Rattle.sg_base.specs.declared.campaign.Campaign.{Campaign as CampaignRow}
-use Rattle.sg_base.specs.declared.daypart.Window.{Window}
-use Rattle.sg_base.specs.declared.repeat.Unit.{Unit as RepeatUnit}
-use Rattle.sg_base.specs.declared.repeat.Unit.TheVariants.{Hour, Day, Week, Month, Year}
-use Rattle.sg_base.specs.declared.event.When.{When}
-use Rattle.sg_base.specs.declared.event.When.TheVariants.{Always, Custom, Named}
-use Rattle.sg_base.specs.declared.event.Target.{Target}
-use Rattle.sg_base.specs.declared.event.Target.TheVariants.{Layout, Campaign}
-use Rattle.sg_base.specs.declared.zone.ZoneRule.{ZoneRule}
-use Rattle.sg_base.specs.declared.zone.ZoneRule.TheVariants.{Offset, Posix}
-use Rattle.sg_base.specs.Daypart.{DaypartRow}
-use Rattle.sg_base.specs.Repeat.{RepeatRow, IsRepeat}
-use Rattle.sg_base.specs.Event.{EventRow}
-use Rattle.sg_manifest.specs.declared.fault.ManifestFault.{ManifestFault}
-use Rattle.sg_manifest.specs.Zone.{IsZone}
-use Rattle.sg_manifest.specs.Rows.{IsLayoutId, IsCampaignRow, IsException, IsDaypartRow, IsTarget, IsWhen, IsRepeatRow, IsEventRow, IsLayoutRow, IsListed}
+use Rattle.sg_rows.specs.declared.fault.ManifestFault.{ManifestFault}
+use Rattle.sg_rows.specs.Rows.{IsCampaignRow, IsDaypartRow, IsEventRow, IsLayoutRow, IsListed}
+use Rattle.sg_rows.specs.Text.{layout_json, file_json, campaign_json, daypart_json, event_json}
+use Rattle.sg_rows.specs.Reading.{layout_at, file_at}
+use Rattle.sg_rows.specs.Schedules.{campaign_at, daypart_at, event_at}
+use Rattle.sg_rows.proofs.CompactSound.{Sound, Sound-unsigned, Sound-list, Sound-object, read-Sound}
+use Rattle.sg_rows.proofs.SoundRows.{id_sound, campaign_sound, daypart_sound, event_sound, file_sound, layout_sound, zone_sound}
+use Rattle.sg_rows.proofs.AgainRows.{list_again, id_again, layout_again, file_again}
+use Rattle.sg_rows.proofs.AgainSchedules.{campaign_again, daypart_again, event_again, zone_again}
 use Rattle.sg_manifest.specs.Snapshot.{SnapshotRow, IsSnapshot}
-use Rattle.sg_manifest.specs.Text.{whole, layout_json, file_json, layout_id_json, campaign_json, exception_json, daypart_json, weekdays, unit_text, until_json, repeat_json, target_json, when_json, event_json, zone_json, snapshot_json, text}
-use Rattle.sg_manifest.specs.Reading.{number_at, layout_at, file_at}
-use Rattle.sg_manifest.specs.Schedules.{layout_id_at, some_layouts, campaign_at, window_at, small, exception_at, daypart_at, unit_at, nullable_at, repeat_at, target_at, custom_at, named_at, when_at, event_at, rule_at, zone_at, draft_at}
-use Rattle.sg_manifest.proofs.ZoneLemmas.{minutes_of_zone, telling_again}
-use Rattle.sg_manifest.proofs.DayLemmas.{days_again}
-use Rattle.sg_manifest.proofs.ScheduleLemmas.{daypart_rises}
-use Rattle.sg_manifest.proofs.CompactSound.{read-Sound}
-use Rattle.sg_manifest.proofs.SoundRows.{snapshot_sound}
-use Rattle.sg_manifest.proofs.AgainRows.{list_again, id_again, layout_again, file_again, minutes_again}
+use Rattle.sg_manifest.specs.Text.{snapshot_json, text}
+use Rattle.sg_manifest.specs.Reading.{draft_at}
 
-layout_id_again : (l : LayoutId) → IsLayoutId l → layout_id_at (layout_id_json l) ≡ Ok l
-unfolding layout_id_at
-layout_id_again l h = rw (id_again l.0 h) refl
-
-some_again : (ls : List LayoutId) → 1 ≤ length ls → length ls ≤ 64 → some_layouts ls ≡ Ok ls
-some_again ls some few =
-    let low : 0 < length ls = omega (arith, some) in
-    let high : length ls < 65 = omega (arith, few) in
-    rw (lt-ltb 0 (length ls) low, lt-ltb (length ls) 65 high) refl
-
-campaign_again : (c : CampaignRow) → IsCampaignRow c → campaign_at (campaign_json c) ≡ Ok c
-unfolding campaign_at
-campaign_again c h =
-    rw (
-      id_again c.id.0 h.id,
-      list_again layout_id_json layout_id_at IsLayoutId layout_id_again c.layouts h.layouts,
-      some_again c.layouts h.some h.few,
-    ) refl
-
-exception_again : (e : ℕ × Window) → IsException e → exception_at (exception_json e) ≡ Ok e
-unfolding exception_at window_at
-exception_again e h =
-    let day : e.0 < 2 ^ 32 = omega (arith, h.day) in
-    rw (lt-ltb e.0 (2 ^ 32) day, lt-ltb e.0 256 h.day, lt-ltb e.1.start (2 ^ 32) h.window.start, lt-ltb e.1.end (2 ^ 32) h.window.end) refl
-
-daypart_again : (d : DaypartRow) → IsDaypartRow d → daypart_at (daypart_json d) ≡ Ok d
-unfolding daypart_at window_at
-daypart_again d h =
-    rw (
-      id_again d.id.0 h.id,
-      lt-ltb d.window.start (2 ^ 32) h.window.start,
-      lt-ltb d.window.end (2 ^ 32) h.window.end,
-      list_again exception_json exception_at IsException exception_again d.exceptions h.exceptions,
-      daypart_rises d h.accepted,
-      h.accepted.sound,
-    ) refl
-
-unit_again : (u : RepeatUnit) → unit_at (string (unit_text u)) ≡ Ok u
-unit_again Hour = refl
-unit_again Day = refl
-unit_again Week = refl
-unit_again Month = refl
-unit_again Year = refl
-
-until_again : (o : Option ℕ) → IfSome o (λ day. day < 2 ^ 32) → nullable_at number_at (until_json o) ≡ Ok o
-until_again None h = refl
-until_again (Some day) h = rw (lt-ltb day (2 ^ 32) h) refl
-
-repeat_again : (o : Option RepeatRow) → IfSome o IsRepeatRow → IfSome o IsRepeat → nullable_at repeat_at (repeat_json o) ≡ Ok o
-unfolding repeat_at
-repeat_again None h a = refl
-repeat_again (Some r) h a =
-    rw (days_again r.days h.days, lt-ltb r.every (2 ^ 32) h.every, unit_again r.unit, until_again r.until h.until, a.sound) refl
-
-target_again : (t : Target) → IsTarget t → target_at (target_json t) ≡ Ok t
-target_again (Layout id) h = rw (id_again id.0 h) refl
-target_again (Campaign id) h = rw (id_again id.0 h) refl
-
-when_again : (w : When) → IsWhen w → when_at (when_json w) ≡ Ok w
-unfolding custom_at named_at
-when_again Always h = refl
-when_again (Custom from to) h = rw (lt-ltb from (2 ^ 32) h.0, lt-ltb to (2 ^ 32) h.1) refl
-when_again (Named daypart date) h = rw (lt-ltb date (2 ^ 32) h.1, id_again daypart.0 h.0) refl
-
-event_again : (e : EventRow) → IsEventRow e → event_at (event_json e) ≡ Ok e
-unfolding event_at
-event_again e h =
-    rw (
-      id_again e.id.0 h.id,
-      lt-ltb e.order (2 ^ 32) h.order,
-      lt-ltb e.priority (2 ^ 32) h.priority,
-      repeat_again e.repeat h.repeat h.accepted.repeats,
-      lt-ltb e.share (2 ^ 32) h.share,
-      target_again e.target h.target,
-      when_again e.when h.when,
-      h.accepted.sound,
-    ) refl
-
-rule_again : (z : ZoneRule) → IsZone z → rule_at (zone_json z) ≡ Ok z
-rule_again (Offset z) h = rw (minutes_again z (minutes_of_zone z h)) refl
-rule_again (Posix text) h = refl
-
-zone_again : (z : ZoneRule) → IsZone z → zone_at (zone_json z) ≡ Ok z
-unfolding zone_at
-zone_again z h = rw (rule_again z h, telling_again z h) refl
+pub snapshot_sound : (s : SnapshotRow) → IsSnapshot s → Sound 7 (snapshot_json s)
+snapshot_sound s h =
+    Sound-object refl (
+      Sound-list campaign_sound s.campaigns h.rows.campaigns,
+      (
+        Sound-list daypart_sound s.dayparts h.rows.dayparts,
+        (
+          id_sound _ h.default,
+          (
+            Sound-list event_sound s.events h.rows.events,
+            (
+              Sound-list file_sound s.files h.rows.files,
+              (Sound-list layout_sound s.layouts h.rows.layouts, (Sound-unsigned 1 (omega arith), (zone_sound s.zone h.zone, tt))),
+            ),
+          ),
+        ),
+      ),
+    )
 
 pub draft_again : (s : SnapshotRow) → IsSnapshot s → draft_at (snapshot_json s) ≡ Ok s
 unfolding draft_at

@@ -1,6 +1,6 @@
 -- For private clauses: what is known of rows that were read, and what is left to look at.
-use Rattle.sg_manifest.specs.Zone.{IsZone}
-use Rattle.sg_manifest.specs.Rows.{IsId}
+use Rattle.sg_rows.specs.Zone.{IsZone}
+use Rattle.sg_rows.specs.Rows.{IsId}
 use Rattle.sg_manifest.specs.Snapshot.{SnapshotRow, HasValidRows, IsInOrder, HasAllNamed, IsWithinLimits}
 
 -- each row is valid by itself

@@ -1,10 +1,7 @@
-pub mod Zone
-pub mod Rows
 pub mod Snapshot
 pub mod Text
 pub mod Sample
-pub mod Built
+pub mod Answer
 pub mod Reading
-pub mod Schedules
-pub mod Compact
 pub mod Fitting
+pub mod Place

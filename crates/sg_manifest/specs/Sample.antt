@@ -1,11 +1,10 @@
 -- A snapshot with rows of each kind, and its text as another program wrote it (Python's json, compact and
 -- with sorted keys).
-use Rattle.std.specs.Prelude.{◌≡◌, ℕ, List, [], ◌∷◌, codes, Some, None, refl}
+use Rattle.std.specs.Prelude.{◌≡◌, ℕ, [], ◌∷◌, codes, Some, None, refl}
 use Rattle.std.specs.Fmt.{digits}
 use Rattle.json.specs.Print.{escape_byte}
 use Rattle.hex.specs.Hex.{encode_with}
 use Rattle.sg_base.specs.declared.layout.Item.{Item}
-use Rattle.sg_base.specs.declared.layout.Region.{Region}
 use Rattle.sg_base.specs.declared.event.When.TheVariants.{Always, Custom, Named}
 use Rattle.sg_base.specs.declared.event.Target.TheVariants.{Layout, Campaign}
 use Rattle.sg_base.specs.declared.repeat.Unit.TheVariants.{Hour, Week}

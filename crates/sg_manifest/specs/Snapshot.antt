@@ -14,8 +14,8 @@ use Rattle.sg_base.specs.declared.zone.ZoneRule.{ZoneRule}
 use Rattle.sg_base.specs.Layout.{LayoutRow}
 use Rattle.sg_base.specs.Daypart.{DaypartRow}
 use Rattle.sg_base.specs.Event.{EventRow}
-use Rattle.sg_manifest.specs.Zone.{IsZone}
-use Rattle.sg_manifest.specs.Rows.{IsId, IsLayoutRow, IsCampaignRow, IsDaypartRow, IsEventRow, IsListed}
+use Rattle.sg_rows.specs.Zone.{IsZone}
+use Rattle.sg_rows.specs.Rows.{IsId, IsLayoutRow, IsCampaignRow, IsDaypartRow, IsEventRow, IsListed}
 
 pub record SnapshotRow : Type 0 where
   pub zone : ZoneRule

@@ -6,6 +6,7 @@ ghost use Rattle.std.specs.List.Sorted.{IsStrictlyIncreasing};
 ghost use Rattle.sg_manifest.specs.Snapshot.{layout_ids as ids_of_layouts, campaign_ids as ids_of_campaigns, daypart_ids as ids_of_dayparts, file_ids as ids_of_files, HasMedia, HasLayouts, IsTargetIn, IsWhenIn, HasAllNamed, IsWithinLimits};
 ghost use Rattle.sg_manifest.specs.Fitting.{FitsTogether};
 
+use crate::place::place_among;
 use crate::snapshot::Draft;
 use sg_base::{Campaign, Daypart, Event, Layout, Listed, Region, Target, When};
 use std::alloc::{AllocError, Global};
@@ -70,12 +71,12 @@ fn ascend(ids: &[u32]) -> bool
     true
 }
 
-/// Whether an id is among ascending ones, by halving.
+/// Whether an id is among ascending ones.
 fn has(ids: &[u32], id: u32) -> bool
     requires { IsStrictlyIncreasing ids.now }
     ensures { IsTrue result ↔ Contains ids.now id }
 {
-    ids.binary_search(&id).is_ok()
+    place_among(ids, id).is_some()
 }
 
 /// Whether the media of a region are among ascending files.

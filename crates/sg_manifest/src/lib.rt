@@ -2,27 +2,20 @@
 //!
 //! A [`Snapshot`] is always valid: each row is accepted by its constructor, ids are distinct and ascend, and
 //! what is named is there. Contracts see it as the record `SnapshotRow` of `specs/Snapshot.antt`, where
-//! validity stands. Its text is defined in `specs/Text.antt`; [`read`] takes the texts of all valid snapshots.
+//! validity stands. Its rows are those of sg_rows. Its text is defined in `specs/Text.antt`; [`read`] takes the
+//! texts of all valid snapshots.
 #![tactic(auto)]
 
-pub use fault::ManifestFault;
+pub use place::place_among;
 pub use reading::{one_text, read};
+pub use sg_rows::ManifestFault;
 pub use snapshot::Snapshot;
 
-mod campaign;
-mod daypart;
 mod draft;
-mod event;
-mod fault;
-mod file;
 mod fitting;
-mod layout;
-mod part;
+mod place;
 mod reading;
-mod repeat;
-mod row;
 mod snapshot;
 #[cfg(test)]
 mod tests;
 mod text;
-mod zone;

@@ -4,15 +4,16 @@ ghost use Rattle.std.specs.Prelude.{◌≡◌, ◌<◌, ◌≤◌, length, Err, 
 ghost use Rattle.serde_json.specs.View.{view};
 ghost use Rattle.sg_manifest.specs.Snapshot.{SnapshotRow, IsSnapshot};
 ghost use Rattle.sg_manifest.specs.Text.{text, snapshot_json};
-ghost use Rattle.sg_manifest.specs.Built.{IsBuilt, Reads};
-ghost use Rattle.sg_manifest.specs.Reading.{Gives, parsed};
-ghost use Rattle.sg_manifest.specs.declared.fault.ManifestFault.TheVariants.{NotBuilt};
+ghost use Rattle.sg_manifest.specs.Answer.{Reads};
+ghost use Rattle.sg_rows.specs.Reading.{Gives};
+ghost use Rattle.sg_manifest.specs.Reading.{parsed};
+ghost use Rattle.sg_rows.specs.declared.fault.ManifestFault.TheVariants.{NotBuilt};
 
-use crate::fault::ManifestFault;
 use crate::fitting::fit;
 use crate::snapshot::{Draft, Snapshot};
 use crate::text::is_text;
 use serde_json::Value;
+use sg_rows::ManifestFault;
 use std::alloc::Global;
 
 /// The most bytes of a manifest's text.
@@ -49,9 +50,9 @@ fn snapshot_of(alloc: Global, value: &Value) -> Result<Snapshot, ManifestFault>
 /// bytes are parsed once, and compared with the text written again.
 pub fn read(alloc: Global, bytes: &[u8]) -> Result<Snapshot, ManifestFault>
     // What is read is the snapshot whose text the bytes are. That it is valid is a fact of its type, too.
-    ensures found { IfOk result (λ s. IsSnapshot s × IsBuilt s × (bytes.now ≡ text s)) }
+    ensures found { IfOk result (λ s. IsSnapshot s × (bytes.now ≡ text s)) }
     // The text of each valid snapshot is read, unless memory runs out.
-    ensures only { (s : SnapshotRow) → IsSnapshot s → IsBuilt s → length bytes.now ≤ 1048576
+    ensures only { (s : SnapshotRow) → IsSnapshot s → length bytes.now ≤ 1048576
         → bytes.now ≡ text s → Reads result s }
     ensures long { 1048576 < length bytes.now → result ≡ Err NotBuilt }
 {

@@ -1,7 +1,7 @@
 //! Manifests that are read, and those that are refused.
 
-use crate::{ManifestFault, read};
-use sg_base::ZoneRule;
+use crate::{ManifestFault, place_among, read};
+use sg_base::{CampaignId, DaypartId, LayoutId, Target, Unit, When, Window, ZoneRule};
 use std::alloc::{AllocError, Global};
 use std::process::Abort;
 use std::test::Fail;
@@ -133,6 +133,49 @@ fn plain_manifest(rt: HostRuntime) -> Result<(), Fail> {
     Ok(())
 }
 
+#[test]
+fn campaign_and_daypart(rt: HostRuntime) -> Result<(), Fail> {
+    let snapshot = read(rt.alloc(), BUSY.as_bytes())?;
+    let campaign = snapshot.campaigns().first().ok_or("no campaign")?;
+    assert_eq!(rt; campaign.id, CampaignId(4));
+    assert_eq!(rt;
+        campaign.layouts.as_slice(),
+        [LayoutId(1), LayoutId(2), LayoutId(1)].as_slice()
+    );
+    let daypart = snapshot.dayparts().first().ok_or("no daypart")?;
+    assert_eq!(rt; daypart.id(), DaypartId(9));
+    assert_eq!(rt; daypart.window().start, 28_800);
+    assert_eq!(rt; daypart.window().end, 0);
+    let saturday = Window {
+        start: 36_000,
+        end: 75_600,
+    };
+    assert_eq!(rt; daypart.exceptions(), [(6, saturday)].as_slice());
+    Ok(())
+}
+
+#[test]
+fn event_fields(rt: HostRuntime) -> Result<(), Fail> {
+    let snapshot = read(rt.alloc(), BUSY.as_bytes())?;
+    let event = snapshot.events().get(1).ok_or("no second event")?;
+    assert_eq!(rt; event.id().0, 2);
+    assert_eq!(rt; event.order(), 3);
+    assert_eq!(rt; event.priority(), 0);
+    assert_eq!(rt; event.share(), 0);
+    assert_eq!(rt; event.target(), Target::Campaign(CampaignId(4)));
+    let named = When::Named {
+        daypart: DaypartId(9),
+        date: 19_723,
+    };
+    assert_eq!(rt; event.when(), named);
+    let repeat = event.repeat().as_ref().ok_or("no repeat")?;
+    assert_eq!(rt; repeat.unit(), Unit::Week);
+    assert_eq!(rt; repeat.every(), 2);
+    assert_eq!(rt; repeat.days(), 0b101_0001);
+    assert_eq!(rt; repeat.until(), Some(19_800));
+    Ok(())
+}
+
 /// Sees that bytes are no manifest.
 fn refuse(rt: &impl Abort, alloc: Global, bytes: &[u8]) {
     assert_eq!(rt; read(alloc, bytes).err(), Some(ManifestFault::NotBuilt));
@@ -242,4 +285,20 @@ fn most_layouts(rt: HostRuntime) -> Result<(), Fail> {
     let more = first_ids(rt.alloc(), 513)?;
     assert_eq!(rt; layouts_read(rt.alloc(), more.as_slice())?, None);
     Ok(())
+}
+
+#[test]
+fn places_of_ids(rt: HostRuntime) {
+    let ids = [2, 5, 9];
+    for (id, place) in [
+        (1, None),
+        (2, Some(0)),
+        (5, Some(1)),
+        (6, None),
+        (9, Some(2)),
+        (10, None),
+    ] {
+        assert_eq!(rt; place_among(&ids, id), place, "{id}");
+    }
+    assert_eq!(rt; place_among(&[], 1), None);
 }

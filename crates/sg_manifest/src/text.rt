@@ -5,10 +5,9 @@ ghost use Rattle.serde_json.specs.View.{view};
 ghost use Rattle.sg_manifest.specs.Snapshot.{IsSnapshot};
 ghost use Rattle.sg_manifest.specs.Text.{text, snapshot_json};
 
-use crate::row::write_list;
 use crate::snapshot::Snapshot;
-use crate::zone::write_zone;
 use serde_json::{Value, json};
+use sg_rows::{write_list, write_zone};
 use std::alloc::{AllocError, Global};
 
 /// The snapshot as JSON. Its lists are written in one pass each.

@@ -1,6 +1,0 @@
-use Rattle.std.proofs.Common.{◌≡◌, ◌-◌, filter, take}
-use Rattle.sg_manifest.proofs.DayLemmas.{is_chosen, week}
-use Rattle.sg_manifest.proofs.repeat.weekdays_of.Given as goal
-
-abbrev pub invariant-loop-weekday : goal.invariant-loop-weekday
-invariant-loop-weekday l = l.chosen.items ≡ filter (is_chosen l.days) (take (l.weekday - 1) week)

@@ -1,0 +1,9 @@
+pub mod Compact
+pub mod CompactSound
+pub mod RowLemmas
+pub mod ZoneLemmas
+pub mod DayLemmas
+pub mod ScheduleLemmas
+pub mod SoundRows
+pub mod AgainRows
+pub mod AgainSchedules

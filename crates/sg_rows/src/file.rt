@@ -1,0 +1,56 @@
+//! Listed files in JSON.
+
+ghost use Rattle.std.specs.Prelude.{◌≡◌, ◌≤◌, IfOk};
+ghost use Rattle.sg_rows.specs.Reading.{Gives, file_length};
+
+use crate::entry::Entry;
+use crate::fault::ManifestFault;
+use crate::part;
+use serde_json::{Value, json};
+use sg_base::{Listed, MediaId};
+use std::alloc::{AllocError, Global};
+
+/// The bytes of the largest file.
+const LENGTH_LIMIT: u32 = 67_108_864;
+
+#[tactic(auto, unfolding(crate::specs::Reading::file_at))]
+impl Entry for Listed {
+    ghost use Rattle.sg_rows.specs.Text.{file_json};
+    ghost use Rattle.sg_rows.specs.Reading.{file_at};
+    ghost use Rattle.sg_rows.specs.Rows.{IsListed};
+
+    ghost json = { file_json };
+
+    ghost at = { file_at };
+
+    ghost valid = { IsListed };
+
+    fn write(&self, alloc: Global) -> Result<Value, AllocError> {
+        let digits = hex::encode(alloc, self.md5.as_slice())?;
+        json!(in alloc; {"id": self.media.0, "length": self.length, "md5": digits})
+    }
+
+    fn read(_alloc: Global, value: &Value) -> Result<Listed, ManifestFault> {
+        let media = part::id(value, "id")?;
+        let length = file_length(part::number(value, "length")?)?;
+        let md5 = part::digest(value, "md5")?;
+        Ok(Listed {
+            media: MediaId(media),
+            length,
+            md5,
+        })
+    }
+}
+
+/// A length of 1 byte to the limit.
+fn file_length(length: u32) -> Result<u32, ManifestFault>
+    ensures gives { Gives (λ n. n) result (file_length length) }
+    ensures some { IfOk result (λ n. 1 ≤ n) }
+    ensures few { IfOk result (λ n. n ≤ 67108864) }
+{
+    if length > LENGTH_LIMIT || length == 0 {
+        Err(ManifestFault::NotBuilt)
+    } else {
+        Ok(length)
+    }
+}

@@ -1,0 +1,90 @@
+//! Layouts in JSON: regions with their items.
+
+ghost use Rattle.std.specs.Prelude.{◌≡◌};
+
+use crate::entry::{Entry, read_list, write_list};
+use crate::fault::ManifestFault;
+use crate::part;
+use serde_json::{Value, json};
+use sg_base::{Item, Layout, LayoutId, MediaId, Region, Rows};
+use std::alloc::{AllocError, Global};
+
+#[tactic(auto, unfolding(crate::specs::Reading::item_at))]
+impl Entry for Item {
+    ghost use Rattle.sg_rows.specs.Text.{item_json};
+    ghost use Rattle.sg_rows.specs.Reading.{item_at};
+    ghost use Rattle.sg_rows.specs.Rows.{IsItem};
+
+    ghost json = { item_json };
+
+    ghost at = { item_at };
+
+    ghost valid = { IsItem };
+
+    fn write(&self, alloc: Global) -> Result<Value, AllocError> {
+        json!(in alloc; {"media": self.media.0, "seconds": self.seconds})
+    }
+
+    fn read(_alloc: Global, value: &Value) -> Result<Item, ManifestFault> {
+        let media = part::id(value, "media")?;
+        let seconds = part::number(value, "seconds")?;
+        Ok(Item {
+            media: MediaId(media),
+            seconds,
+        })
+    }
+}
+
+#[tactic(auto, unfolding(crate::specs::Reading::region_at))]
+impl Entry for Region {
+    ghost use Rattle.sg_rows.specs.Text.{region_json};
+    ghost use Rattle.sg_rows.specs.Reading.{region_at};
+    ghost use Rattle.sg_rows.specs.Rows.{IsRegion};
+
+    ghost json = { region_json };
+
+    ghost at = { region_at };
+
+    ghost valid = { IsRegion };
+
+    fn write(&self, alloc: Global) -> Result<Value, AllocError> {
+        let items = write_list(alloc, self.items.as_slice())?;
+        json!(in alloc; {"id": self.id, "items": items})
+    }
+
+    fn read(alloc: Global, value: &Value) -> Result<Region, ManifestFault> {
+        let id = part::id(value, "id")?;
+        let items = read_list(alloc, part::member(value, "items")?)?;
+        Ok(Region {
+            id,
+            items: Rows::from_vec(items),
+        })
+    }
+}
+
+#[tactic(auto, unfolding(crate::specs::Reading::layout_at), using(crate::proofs::RowLemmas::regions_have_ids))]
+impl Entry for Layout {
+    ghost use Rattle.sg_rows.specs.Text.{layout_json};
+    ghost use Rattle.sg_rows.specs.Reading.{layout_at};
+    ghost use Rattle.sg_rows.specs.Rows.{IsLayoutRow};
+
+    ghost json = { layout_json };
+
+    ghost at = { layout_at };
+
+    ghost valid = { IsLayoutRow };
+
+    fn write(&self, alloc: Global) -> Result<Value, AllocError> {
+        let regions = write_list(alloc, self.regions())?;
+        json!(in alloc; {"id": self.id().0, "regions": regions})
+    }
+
+    fn read(alloc: Global, value: &Value) -> Result<Layout, ManifestFault> {
+        let id = part::id(value, "id")?;
+        let regions = read_list(alloc, part::member(value, "regions")?)?;
+        match Layout::new(LayoutId(id), regions) {
+            Ok(layout) => Ok(layout),
+            Err(_) => Err(ManifestFault::NotBuilt),
+        }
+    }
+}

@@ -1,0 +1,210 @@
+//! Repeats of events in JSON.
+
+ghost use Rattle.std.specs.Prelude.{◌≡◌, ◌==◌, ◌-◌, ◌/◌, ◌%◌, ◌^◌, ◌<◌, ◌≤◌, IfOk, IfSome};
+ghost use Rattle.serde_json.specs.View.{view};
+ghost use Rattle.sg_base.specs.Repeat.{IsRepeat};
+ghost use Rattle.sg_rows.specs.Text.{list_of, whole, weekdays, unit_text, until_json, repeat_json};
+ghost use Rattle.sg_rows.specs.Reading.{Gives, number_at};
+ghost use Rattle.sg_rows.specs.Rows.{IsRepeatRow};
+ghost use Rattle.sg_rows.specs.Schedules.{with_weekday, days_at, unit_at, unit_of, nullable_at, repeat_at};
+
+use crate::entry::{Entry, write_list};
+use crate::fault::ManifestFault;
+use crate::part;
+use serde_json::{Value, json};
+use sg_base::{Repeat, Unit};
+use std::alloc::{AllocError, Global};
+
+/// The bits of the weekdays, Monday first.
+const WEEKDAY_BITS: [u8; 7] = [1, 2, 4, 8, 16, 32, 64];
+
+/// The bit of a weekday, 1 (Monday) to 7 (Sunday).
+#[tactic(auto, using(crate::proofs::DayLemmas::bit_at, crate::proofs::DayLemmas::bit_low))]
+fn weekday_bit(weekday: u32) -> u8
+    requires some { 1 ≤ weekday }
+    requires few { weekday ≤ 7 }
+    ensures value { result ≡ 2 ^ (weekday - 1) }
+    ensures few { result ≤ 64 }
+{
+    WEEKDAY_BITS[weekday as usize - 1]
+}
+
+/// The bits of some weekdays and of a later one.
+fn with_weekday(bits: u8, weekday: u32) -> Result<u8, ManifestFault>
+    requires { bits < 2 ^ 7 }
+    ensures gives { Gives (λ n. n) result (with_weekday bits weekday) }
+    ensures few { IfOk result (λ n. n < 2 ^ 7) }
+{
+    if weekday < 1 || weekday > 7 {
+        return Err(ManifestFault::NotBuilt);
+    }
+    let bit = weekday_bit(weekday);
+    if bits < bit {
+        Ok(bits + bit)
+    } else {
+        Err(ManifestFault::NotBuilt)
+    }
+}
+
+/// The bits of weekdays that ascend.
+fn read_days(value: &Value) -> Result<u8, ManifestFault>
+    ensures gives { Gives (λ n. n) result (days_at (view value.now)) }
+    ensures few { IfOk result (λ n. n < 2 ^ 7) }
+{
+    let items = value.as_array().ok_or(ManifestFault::NotBuilt)?;
+    let mut bits = 0;
+    for item in items {
+        bits = with_weekday(bits, part::whole(item)?)?;
+    }
+    Ok(bits)
+}
+
+/// Whether bits have that of a weekday.
+fn is_chosen(days: u8, weekday: u32) -> bool
+    requires some { 1 ≤ weekday }
+    requires few { weekday ≤ 7 }
+    ensures { result ≡ (days / 2 ^ (weekday - 1) % 2 == 1) }
+{
+    days / weekday_bit(weekday) % 2 == 1
+}
+
+/// The weekdays of bits, by their numbers.
+fn weekdays_of(alloc: Global, days: u8) -> Result<Vec<u32>, AllocError>
+    ensures { IfOk result (λ chosen. chosen.items ≡ weekdays days) }
+{
+    let mut chosen = Vec::new(alloc);
+    for weekday in 1..8u32 {
+        if is_chosen(days, weekday) {
+            chosen.push(weekday)?;
+        }
+    }
+    Ok(chosen)
+}
+
+impl Entry for u32 {
+    ghost use Rattle.std.specs.Prelude.{◌^◌, ◌<◌};
+    ghost use Rattle.sg_rows.specs.Text.{whole};
+    ghost use Rattle.sg_rows.specs.Reading.{number_at};
+
+    ghost json = { whole };
+
+    ghost at = { number_at };
+
+    ghost valid = { λ n. n < 2 ^ 32 };
+
+    fn write(&self, _alloc: Global) -> Result<Value, AllocError> {
+        Ok(Value::from(*self))
+    }
+
+    fn read(_alloc: Global, value: &Value) -> Result<u32, ManifestFault> {
+        part::whole(value)
+    }
+}
+
+fn write_days(alloc: Global, days: u8) -> Result<Value, AllocError>
+    ensures { IfOk result (λ v. view v ≡ list_of whole (weekdays days)) }
+{
+    let chosen = weekdays_of(alloc, days)?;
+    write_list(alloc, chosen.as_slice())
+}
+
+fn unit_name(unit: Unit) -> &'static str
+    ensures { result.now ≡ unit_text unit }
+{
+    match unit {
+        Unit::Hour => "hour",
+        Unit::Day => "day",
+        Unit::Week => "week",
+        Unit::Month => "month",
+        Unit::Year => "year",
+    }
+}
+
+fn unit_of(name: &str) -> Option<Unit>
+    ensures { result ≡ unit_of name.now }
+{
+    if name == "hour" {
+        Some(Unit::Hour)
+    } else if name == "day" {
+        Some(Unit::Day)
+    } else if name == "week" {
+        Some(Unit::Week)
+    } else if name == "month" {
+        Some(Unit::Month)
+    } else if name == "year" {
+        Some(Unit::Year)
+    } else {
+        None
+    }
+}
+
+fn read_unit(value: &Value) -> Result<Unit, ManifestFault>
+    ensures { Gives (λ u. u) result (unit_at (view value.now)) }
+{
+    let name = value.as_str().ok_or(ManifestFault::NotBuilt)?;
+    unit_of(name).ok_or(ManifestFault::NotBuilt)
+}
+
+/// A day number, or null.
+fn read_until(value: &Value) -> Result<Option<u32>, ManifestFault>
+    ensures gives { Gives (λ o. o) result (nullable_at number_at (view value.now)) }
+    ensures fits { IfOk result (λ o. IfSome o (λ day. day < 2 ^ 32)) }
+{
+    if value.is_null() {
+        return Ok(None);
+    }
+    let day = part::whole(value)?;
+    Ok(Some(day))
+}
+
+fn until_value(until: Option<u32>) -> Value
+    ensures { view result ≡ until_json until }
+{
+    match until {
+        None => Value::Null,
+        Some(day) => Value::from(day),
+    }
+}
+
+#[tactic(auto, unfolding(crate::specs::Schedules::repeat_at))]
+fn read_some(value: &Value) -> Result<Repeat, ManifestFault>
+    ensures gives { Gives (λ r. r) result (repeat_at (view value.now)) }
+    ensures sound { IfOk result IsRepeatRow }
+    ensures accepted { IfOk result IsRepeat }
+{
+    let days = read_days(part::member(value, "days")?)?;
+    let every = part::number(value, "every")?;
+    let unit = read_unit(part::member(value, "unit")?)?;
+    let until = read_until(part::member(value, "until")?)?;
+    match Repeat::new(unit, every, days, until) {
+        Ok(repeat) => Ok(repeat),
+        Err(_) => Err(ManifestFault::NotBuilt),
+    }
+}
+
+/// How an event repeats, or null.
+pub(crate) fn read_repeat(value: &Value) -> Result<Option<Repeat>, ManifestFault>
+    ensures gives { Gives (λ o. o) result (nullable_at repeat_at (view value.now)) }
+    ensures sound { IfOk result (λ o. IfSome o IsRepeatRow) }
+    ensures accepted { IfOk result (λ o. IfSome o IsRepeat) }
+{
+    if value.is_null() {
+        return Ok(None);
+    }
+    let repeat = read_some(value)?;
+    Ok(Some(repeat))
+}
+
+pub(crate) fn write_repeat(alloc: Global, repeat: &Option<Repeat>) -> Result<Value, AllocError>
+    ensures { IfOk result (λ v. view v ≡ repeat_json repeat.now) }
+{
+    match repeat {
+        None => Ok(Value::Null),
+        Some(repeat) => {
+            let days = write_days(alloc, repeat.days())?;
+            let unit = unit_name(repeat.unit());
+            let until = until_value(repeat.until());
+            json!(in alloc; {"days": days, "every": repeat.every(), "unit": unit, "until": until})
+        }
+    }
+}
