@@ -1,14 +1,15 @@
 -- Rows found by their id.
-use Rattle.std.proofs.Common.{◌≡◌, ℕ, ◌<◌, ◌≤◌, true, eqb, Bool, cond, List, [], ◌∷◌, length, map, get_or, Option, Some, None, Bor, IfSome, false, nat_lt, zero, suc, refl, ap, ◌∙◌, arith, inl, inr, sym, subst}
-use Rattle.std.proofs.lemmas.Bool.{eq-eqb, ne_eqb, ltb-true, ltb-false, cases_Bool, cases_lt}
+use Rattle.std.proofs.Common.{◌≡◌, ℕ, ◌<◌, ◌≤◌, true, eqb, Bool, cond, List, [], ◌∷◌, length, map, get_or, Option, Some, None, false, zero, suc, refl, ap, ◌∙◌, arith, inl, inr, sym, subst}
+use Rattle.std.proofs.lemmas.Bool.{eq-eqb, ne_eqb, cases_Bool}
 use Rattle.std.proofs.lemmas.List.{length-map, get_or-map}
+use Rattle.std.proofs.lemmas.List.Elements.{All-from_recursion}
 use Rattle.std.proofs.lemmas.List.Kept.{AllPairs-from_increasing}
-use Rattle.std.specs.List.Sorted.{IsNonDecreasingBy, IsPartitionPoint, IsStrictlyIncreasing}
+use Rattle.std.specs.List.Sorted.{IsStrictlyIncreasing}
 use Rattle.std.specs.List.{AllByRecursion, find, Contains}
-use Rattle.std.specs.Option.{option_copied}
 use Rattle.sg_base.specs.declared.campaign.Campaign.{Campaign as CampaignRow}
 use Rattle.sg_base.proofs.FaultLemmas.{if_none}
-use Rattle.sg_manifest.specs.Rows.{IsCampaignRow}
+use Rattle.sg_manifest.specs.Place.{IsPlaceOf}
+use Rattle.sg_rows.specs.Rows.{IsCampaignRow}
 
 -- a row whose id stands at a place among the ids is found
 missing_at : {X : Type 0} (number : X → ℕ) (xs : List X) (id k : ℕ) → k < length xs → get_or (map number xs) k id ≡ id → find (λ x. eqb (number x) id) xs ≡ None → ⊥
@@ -43,13 +44,6 @@ rises number xs up i j d less inside =
     let here : i < length xs = omega arith in
     rw (get_or-map number xs i d (number d) here, get_or-map number xs j d (number d) inside) at pairs
 
-pub never_falls : {X : Type 0} (number : X → ℕ) (xs : List X) → IsStrictlyIncreasing (map number xs) → IsNonDecreasingBy number xs
-never_falls number xs up i j d le inside =
-    elim (cases_lt i j) [
-      | inl less ↦ omega (arith, rises number xs up i j d less inside)
-      | inr same ↦ let e : i ≡ j = omega arith in rw e (omega arith)
-    ]
-
 -- a row is found where those before it have other ids
 found_here : {X : Type 0} (number : X → ℕ) (xs : List X) (id k : ℕ) (x : X) → k < length xs → x ≡ get_or xs k x → ((i : ℕ) → i < k → eqb (number (get_or xs i x)) id ≡ false) → number x ≡ id → find (λ y. eqb (number y) id) xs ≡ Some x
 found_here number [] id k x inside is others same = absurd (omega arith)
@@ -67,29 +61,51 @@ none_here number (y ∷ ys) id others =
     let miss : eqb (number y) id ≡ false = others 0 y (omega arith) in
     rw miss (none_here number ys id (λ i d less. others (suc i) d (omega arith)))
 
--- the row behind those of smaller ids is found, if it has the id
-pub found_behind : {X : Type 0} (number : X → ℕ) (xs : List X) (id k : ℕ) (x : X) → k < length xs → x ≡ get_or xs k x → IsPartitionPoint (λ y. nat_lt (number y) id ≡ true) (λ y. nat_lt (number y) id ≡ false) xs k → number x ≡ id → find (λ y. eqb (number y) id) xs ≡ Some x
-found_behind number xs id k x inside is point same =
-    found_here number xs id k x inside is (λ i less. ne_eqb (number (get_or xs i x)) id (let small = ltb-true (number (get_or xs i x)) id (point.0 i x (omega arith) less) in λ e. omega (arith, small, e))) same
+-- the row at a place whose id is the number is found
+found_place : {X : Type 0} (number : X → ℕ) (xs : List X) (id k : ℕ) (x : X) → IsStrictlyIncreasing (map number xs) → k < length xs → x ≡ get_or xs k x → number x ≡ id → find (λ y. eqb (number y) id) xs ≡ Some x
+found_place number xs id k x up inside is same =
+    found_here number xs id k x inside is (λ i less. ne_eqb (number (get_or xs i x)) id (λ e. omega (arith, rises number xs up i k x less inside, e, same, ap number is))) same
 
--- and else none is
-pub none_behind : {X : Type 0} (number : X → ℕ) (xs : List X) (id k : ℕ) → IsStrictlyIncreasing (map number xs) → IsPartitionPoint (λ y. nat_lt (number y) id ≡ true) (λ y. nat_lt (number y) id ≡ false) xs k → ((d : X) → k < length xs → number (get_or xs k d) ≡ id → ⊥) → find (λ y. eqb (number y) id) xs ≡ None
-none_behind number xs id k up point other =
+-- what a place among the ids says of the row that is found
+pub found_at : {X : Type 0} (number : X → ℕ) (xs : List X) (ids : List ℕ) (id k : ℕ) (x : X) → ids ≡ map number xs → IsStrictlyIncreasing (map number xs) → IsPlaceOf ids id (Some k) → x ≡ get_or xs k x → find (λ y. eqb (number y) id) xs ≡ Some x
+found_at number xs ids id k x are up place is =
+    let here : IsPlaceOf (map number xs) id (Some k) = rw are at place in
+    let inside : k < length xs = omega (arith, here.0, length-map xs number) in
+    let same : number x ≡ id = ap number is ∙ (sym (get_or-map number xs k x 0 inside) ∙ here.1) in
+    found_place number xs id k x up inside is same
+
+-- where a number is not among the ids, no row is found
+pub none_found : {X : Type 0} (number : X → ℕ) (xs : List X) (ids : List ℕ) (id : ℕ) → ids ≡ map number xs → IsPlaceOf ids id None → find (λ y. eqb (number y) id) xs ≡ None
+none_found number xs ids id are missing =
     none_here number xs id (λ i d inside. ne_eqb (number (get_or xs i d)) id (λ e.
-    elim (cases_lt i k) [
-      | inl before ↦ omega (arith, ltb-true (number (get_or xs i d)) id (point.0 i d (omega arith) before), e)
-      | inr behind ↦
-          elim (cases_lt k i) [
-            | inl further ↦
-                let here : k < length xs = omega arith in
-                omega (arith, ltb-false (number (get_or xs k d)) id (point.1 k d (omega arith) here), rises number xs up k i d further inside, e)
-            | inr same ↦
-                let at : i ≡ k = omega arith in
-                other d (omega arith) (rw at at e)
-          ]
-    ]))
+    let there : Contains (map number xs) id = (i, omega (arith, inside, length-map xs number), get_or-map number xs i d id inside ∙ e) in
+    missing (rw are there)))
 
--- a campaign that is found has at most 64 layouts
-pub few_found : (r : Option (Bor CampaignRow)) (cs : List CampaignRow) (id : ℕ) → AllByRecursion IsCampaignRow cs → option_copied r ≡ find (λ c. eqb c.id.0 id) cs → IfSome r (λ c. length c.now.layouts ≤ 64)
-few_found None cs id all is = tt
-few_found (Some b) cs id all is = (found_passes IsCampaignRow (λ c. eqb c.id.0 id) cs b.now all (sym is)).few
+-- a place among the ids is a place among the rows
+place_inside : {X : Type 0} (number : X → ℕ) (xs : List X) (ids : List ℕ) (id k : ℕ) → ids ≡ map number xs → IsPlaceOf ids id (Some k) → k < length xs
+place_inside number xs ids id k are place = omega (arith, ap (λ (ns : List ℕ). length ns) are, length-map xs number, place.0)
+
+told_here : {X : Type 0} (number told : X → ℕ) (F : Option X → ℕ) → ((x : X) → F (Some x) ≡ told x) → (xs : List X) (id k d : ℕ) → ((i j : ℕ) (e : X) → i < j → j < length xs → number (get_or xs i e) < number (get_or xs j e)) → k < length xs → get_or (map number xs) k 0 ≡ id → F (find (λ y. eqb (number y) id) xs) ≡ get_or (map told xs) k d
+told_here number told F is [] id k d up inside same = absurd (omega (arith, inside))
+told_here number told F is (x ∷ xs) id zero d up inside same =
+    let hit : eqb (number x) id ≡ true = eq-eqb (number x) id same in
+    rw hit (is x)
+told_here number told F is (x ∷ xs) id (suc k) d up inside same =
+    let here : k < length xs = omega (arith, inside) in
+    let less : number x < number (get_or xs k x) = up 0 (suc k) x (omega arith) inside in
+    let there : number (get_or xs k x) ≡ id = sym (get_or-map number xs k x 0 here) ∙ same in
+    let miss : eqb (number x) id ≡ false = ne_eqb (number x) id (λ e. omega (arith, less, there, e)) in
+    rw miss (told_here number told F is xs id k d (λ i j e l n. up (suc i) (suc j) e (omega (arith, l)) (omega (arith, n))) here same)
+
+-- what is told of each row, read at the place of the row that is found
+pub told_at : {X : Type 0} (number told : X → ℕ) (F : Option X → ℕ) → ((x : X) → F (Some x) ≡ told x) → (xs : List X) (ids : List ℕ) (id k d : ℕ) → ids ≡ map number xs → IsStrictlyIncreasing (map number xs) → IsPlaceOf ids id (Some k) → F (find (λ y. eqb (number y) id) xs) ≡ get_or (map told xs) k d
+told_at number told F is xs ids id k d are up place =
+    let here : IsPlaceOf (map number xs) id (Some k) = rw are at place in
+    told_here number told F is xs id k d (rises number xs up) (omega (arith, here.0, length-map xs number)) here.1
+
+-- a campaign at a place has at most 64 layouts
+pub few_at : (cs : List CampaignRow) (ids : List ℕ) (id k : ℕ) (x : CampaignRow) → AllByRecursion IsCampaignRow cs → ids ≡ map (λ c. c.id.0) cs → IsPlaceOf ids id (Some k) → x ≡ get_or cs k x → length x.layouts ≤ 64
+few_at cs ids id k x rows are place is =
+    let inside : k < length cs = place_inside (λ (c : CampaignRow). c.id.0) cs ids id k are place in
+    let row : IsCampaignRow x = subst IsCampaignRow (sym is) (All-from_recursion IsCampaignRow cs rows k x inside) in
+    row.few

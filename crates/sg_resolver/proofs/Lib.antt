@@ -1,5 +1,6 @@
 pub mod Fixed
 pub mod Found
+pub mod FrontLemmas
 pub mod Pictures
 pub mod OrderLemmas
 pub mod ListLemmas

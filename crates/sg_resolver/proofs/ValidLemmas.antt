@@ -23,7 +23,7 @@ use Rattle.sg_voice.specs.Hour.{IsPlay, IsInterrupt, interrupt_plays}
 use Rattle.sg_voice.specs.Hour.{play_of as interrupt_play}
 use Rattle.sg_voice.specs.Begin.{IsSlot, Full, Normal, Between}
 use Rattle.sg_voice.proofs.SoundLemmas.{all_append, all_interrupt_plays, at_cyclic}
-use Rattle.sg_manifest.specs.Rows.{IsLayoutRow, IsCampaignRow, IsEventRow}
+use Rattle.sg_rows.specs.Rows.{IsLayoutRow, IsCampaignRow, IsEventRow}
 use Rattle.sg_manifest.specs.Snapshot.{SnapshotRow, IsSnapshot, HasTarget, layout_ids}
 use Rattle.sg_resolver.specs.Rows.{regions_of, shown_by}
 use Rattle.sg_resolver.specs.Lists.{is_active, greatest_priority, in_order, play_of, plays_of, plays_or_default, normal_events, normal_plays, target_layout, interrupt_of, interrupt_events, interrupts}

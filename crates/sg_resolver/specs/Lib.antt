@@ -3,3 +3,5 @@ pub mod Lists
 pub mod Shown
 pub mod Ready
 pub mod Kind
+pub mod Catalog
+pub mod Front

@@ -10,8 +10,8 @@ pub use picture::Picture;
 pub use resolver::Resolver;
 pub use show::Show;
 
+mod catalog;
 mod lists;
-mod lookup;
 mod order;
 mod picture;
 mod resolver;

@@ -6,17 +6,19 @@
 ghost use Rattle.std.specs.Prelude.{◌≡◌, ◌==◌, ◌&&◌, ℕ, ◌+◌, ◌*◌, ◌<◌, ◌≤◌, List, [], ◌∷◌, ◌++◌, length, map, filter, nat_lt, vec_len, vec_capacity, pos, neg_ℤ, ◌≤ℤ◌, ◌<ℤ◌};
 ghost use Rattle.std.specs.List.{flat_map};
 ghost use Rattle.sg_base.specs.Event.{EventRow};
-ghost use Rattle.sg_base.specs.Layout.{longest};
-ghost use Rattle.sg_resolver.specs.Rows.{regions_of};
+ghost use Rattle.sg_voice.specs.declared.play.Play.{Play};
+ghost use Rattle.sg_resolver.specs.Front.{Leads, IsFront};
 ghost use Rattle.sg_resolver.specs.Kind.{is_of, is_listed};
 ghost use Rattle.sg_resolver.specs.Lists.{is_active, greatest_priority, highest, in_order, play_of, plays_of, plays_or_default, normal_plays, interrupt_of, target_layout, interrupts as interrupts_at};
 
-use crate::lookup::{campaign_with, daypart_with, layout_with};
+use crate::catalog::Catalog;
 use sg_base::{Event, EventId, LayoutId, LocalSec, Steps, Target, When};
 use sg_events::active;
-use sg_manifest::Snapshot;
 use sg_voice::{Interrupt, Play};
 use std::sync::ledger::Ledger;
+
+/// The most plays that an hour shows: no play is shorter than a second.
+const MOST: usize = 3600;
 
 /// The two kinds of event: an interrupt has a share of voice.
 #[derive(Clone, Copy, Debug, PartialEq, Eq)]
@@ -48,7 +50,7 @@ fn has_kind(event: &Event, kind: Kind) -> bool
 }
 
 // Whether an event is active, which counts at most a step. Each daypart that an event names is there.
-fn is_on<L: Ledger>(s: &Snapshot, event: &Event, t: LocalSec, steps: &mut Steps<L>) -> bool
+fn is_on<L: Ledger>(s: &Catalog, event: &Event, t: LocalSec, steps: &mut Steps<L>) -> bool
     requires low { neg_ℤ (pos 93599) ≤ℤ t }
     requires high { t <ℤ pos 4102704000 }
     ensures value { result ≡ is_active s.now t event.now }
@@ -56,7 +58,7 @@ fn is_on<L: Ledger>(s: &Snapshot, event: &Event, t: LocalSec, steps: &mut Steps<
 {
     match event.when() {
         When::Always | When::Custom { .. } => active(event, None, t, steps),
-        When::Named { daypart, .. } => match daypart_with(s, daypart.0) {
+        When::Named { daypart, .. } => match s.daypart(daypart.0) {
             Some(daypart) => active(event, Some(daypart), t, steps),
             None => false,
         },
@@ -65,7 +67,7 @@ fn is_on<L: Ledger>(s: &Snapshot, event: &Event, t: LocalSec, steps: &mut Steps<
 
 // Appends an event if it is of a kind and active.
 fn offer<L: Ledger>(
-    s: &Snapshot,
+    s: &Catalog,
     event: &Event,
     kind: Kind,
     t: LocalSec,
@@ -95,7 +97,7 @@ fn offer<L: Ledger>(
 
 // Lists the active events of a kind. Each event of the kind is asked once.
 fn list_active<L: Ledger>(
-    s: &Snapshot,
+    s: &Catalog,
     events: &[Event],
     kind: Kind,
     t: LocalSec,
@@ -127,29 +129,19 @@ fn top_priority(events: &[Event]) -> u32
     top
 }
 
-// How long a layout lasts. Each layout that is asked for is there.
-fn seconds_of(s: &Snapshot, layout: u32) -> u32
-    ensures { result ≡ longest (regions_of s.now layout) }
-{
-    match layout_with(s, layout) {
-        Some(layout) => layout.duration(),
-        None => 0,
-    }
-}
-
 // One play of a layout.
-fn one_play(s: &Snapshot, event: u32, layout: LayoutId) -> Play
+fn one_play(s: &Catalog, event: u32, layout: LayoutId) -> Play
     ensures { result ≡ play_of s.now event layout }
 {
     Play {
         event,
         layout: layout.0,
-        seconds: seconds_of(s, layout.0),
+        seconds: s.seconds(layout.0),
     }
 }
 
 // Appends a play of each layout of a campaign, of which there are at most 64.
-fn add_layouts(s: &Snapshot, event: u32, layouts: &[LayoutId], plays: &mut Vec<Play>)
+fn add_layouts(s: &Catalog, event: u32, layouts: &[LayoutId], plays: &mut Vec<Play>)
     requires room { vec_len plays.old + length layouts.now ≤ vec_capacity plays.old }
     ensures items { plays.new.items ≡ plays.old.items ++ map (play_of s.now event) layouts.now }
     ensures room { vec_capacity plays.old ≤ vec_capacity plays.new }
@@ -160,7 +152,7 @@ fn add_layouts(s: &Snapshot, event: u32, layouts: &[LayoutId], plays: &mut Vec<P
 }
 
 // Appends the plays of an event.
-fn add_plays(s: &Snapshot, event: &Event, plays: &mut Vec<Play>)
+fn add_plays(s: &Catalog, event: &Event, plays: &mut Vec<Play>)
     requires room { vec_len plays.old + 64 ≤ vec_capacity plays.old }
     ensures items { plays.new.items ≡ plays.old.items ++ plays_of s.now event.now }
     ensures few { vec_len plays.new ≤ vec_len plays.old + 64 }
@@ -169,23 +161,25 @@ fn add_plays(s: &Snapshot, event: &Event, plays: &mut Vec<Play>)
     let id = event.id().0;
     match event.target() {
         Target::Layout(layout) => append(plays, one_play(s, id, layout)),
-        Target::Campaign(campaign) => match campaign_with(s, campaign.0) {
+        Target::Campaign(campaign) => match s.campaign(campaign.0) {
             Some(campaign) => add_layouts(s, id, campaign.layouts.as_slice(), plays),
             None => {}
         },
     }
 }
 
-// Appends the plays of an event if it has a priority.
-fn offer_plays(s: &Snapshot, event: &Event, top: u32, plays: &mut Vec<Play>)
+// Appends the plays of an event, if it has a priority and an hour isn't full of plays already.
+fn offer_plays(s: &Catalog, event: &Event, top: u32, plays: &mut Vec<Play>)
     requires room { vec_len plays.old + 64 ≤ vec_capacity plays.old }
-    ensures items { (rest : List EventRow) →
-        plays.new.items ++ flat_map (plays_of s.now) (filter (λ e. e.priority == top) rest)
-        ≡ plays.old.items
-        ++ flat_map (plays_of s.now) (filter (λ e. e.priority == top) (event.now ∷ rest)) }
+    ensures items { (rest : List EventRow) (all : List Play) →
+        Leads plays.old.items (flat_map (plays_of s.now) (filter (λ e. e.priority == top) (event.now ∷ rest))) all
+        → Leads plays.new.items (flat_map (plays_of s.now) (filter (λ e. e.priority == top) rest)) all }
     ensures few { vec_len plays.new ≤ vec_len plays.old + 64 }
     ensures room { vec_capacity plays.old ≤ vec_capacity plays.new }
 {
+    if plays.len() >= MOST {
+        return;
+    }
     if event.priority() != top {
         return;
     }
@@ -193,15 +187,15 @@ fn offer_plays(s: &Snapshot, event: &Event, top: u32, plays: &mut Vec<Play>)
 }
 
 // Lists the plays of the events of the greatest priority among some, or that of the default layout where
-// there is no event.
-fn list_plays(s: &Snapshot, events: &[Event], plays: &mut Vec<Play>)
+// there is no event. The hour bounds how many plays are listed.
+fn list_plays(s: &Catalog, events: &[Event], plays: &mut Vec<Play>)
     requires room { 64 * length events.now + 1 ≤ vec_capacity plays.old }
-    ensures items { plays.new.items ≡ plays_or_default s.now (highest events.now) }
+    ensures items { IsFront plays.new.items (plays_or_default s.now (highest events.now)) }
     ensures room { vec_capacity plays.old ≤ vec_capacity plays.new }
 {
     plays.clear();
     if events.is_empty() {
-        append(plays, one_play(s, 0, s.default()));
+        append(plays, one_play(s, 0, s.snapshot().default()));
         return;
     }
     let top = top_priority(events);
@@ -210,9 +204,10 @@ fn list_plays(s: &Snapshot, events: &[Event], plays: &mut Vec<Play>)
     }
 }
 
-/// Lists the normal plays at a local second, from the events in order.
+/// Lists the normal plays at a local second, from the events in order: all of them, or as many as an hour shows at
+/// most.
 pub(crate) fn list_normal<L: Ledger>(
-    s: &Snapshot,
+    s: &Catalog,
     ordered: &[Event],
     t: LocalSec,
     steps: &mut Steps<L>,
@@ -224,7 +219,7 @@ pub(crate) fn list_normal<L: Ledger>(
     requires ordered { ordered.now ≡ in_order s.now.events }
     requires listed { length s.now.events ≤ vec_capacity listed.old }
     requires plays { 64 * length s.now.events + 1 ≤ vec_capacity plays.old }
-    ensures items { plays.new.items ≡ normal_plays s.now t }
+    ensures items { IsFront plays.new.items (normal_plays s.now t) }
     ensures listed { vec_capacity listed.old ≤ vec_capacity listed.new }
     ensures plays { vec_capacity plays.old ≤ vec_capacity plays.new }
     ensures ticks { steps.new ≤ steps.old + length (filter (λ e. e.share == 0) s.now.events) }
@@ -244,20 +239,20 @@ fn layout_of(target: Target) -> u32
 }
 
 // What an interrupt asks of the hour.
-fn one_interrupt(s: &Snapshot, event: &Event) -> Interrupt
+fn one_interrupt(s: &Catalog, event: &Event) -> Interrupt
     ensures { result ≡ interrupt_of s.now event.now }
 {
     let layout = layout_of(event.target());
     Interrupt {
         event: event.id().0,
         layout,
-        seconds: seconds_of(s, layout),
+        seconds: s.seconds(layout),
         share: event.share(),
     }
 }
 
 // Appends an interrupt if it has a priority.
-fn offer_interrupt(s: &Snapshot, event: &Event, top: u32, interrupts: &mut Vec<Interrupt>)
+fn offer_interrupt(s: &Catalog, event: &Event, top: u32, interrupts: &mut Vec<Interrupt>)
     requires room { vec_len interrupts.old < vec_capacity interrupts.old }
     ensures items { (rest : List EventRow) →
         interrupts.new.items ++ map (interrupt_of s.now) (filter (λ e. e.priority == top) rest)
@@ -273,7 +268,7 @@ fn offer_interrupt(s: &Snapshot, event: &Event, top: u32, interrupts: &mut Vec<I
 }
 
 // Lists those of some events that have the greatest priority among them, as interrupts.
-fn list_highest(s: &Snapshot, events: &[Event], interrupts: &mut Vec<Interrupt>)
+fn list_highest(s: &Catalog, events: &[Event], interrupts: &mut Vec<Interrupt>)
     requires room { length events.now ≤ vec_capacity interrupts.old }
     ensures items { interrupts.new.items ≡ map (interrupt_of s.now) (highest events.now) }
     ensures room { vec_capacity interrupts.old ≤ vec_capacity interrupts.new }
@@ -285,9 +280,10 @@ fn list_highest(s: &Snapshot, events: &[Event], interrupts: &mut Vec<Interrupt>)
     }
 }
 
-/// Lists the interrupts at a local second.
+/// Lists the interrupts at a local second, from the events by id.
 pub(crate) fn list_interrupts<L: Ledger>(
-    s: &Snapshot,
+    s: &Catalog,
+    events: &[Event],
     t: LocalSec,
     steps: &mut Steps<L>,
     listed: &mut Vec<Event>,
@@ -295,6 +291,7 @@ pub(crate) fn list_interrupts<L: Ledger>(
 )
     requires low { neg_ℤ (pos 93599) ≤ℤ t }
     requires high { t <ℤ pos 4102704000 }
+    requires events { events.now ≡ s.now.events }
     requires listed { length s.now.events ≤ vec_capacity listed.old }
     requires interrupts { length s.now.events ≤ vec_capacity interrupts.old }
     ensures items { interrupts.new.items ≡ interrupts_at s.now t }
@@ -302,6 +299,6 @@ pub(crate) fn list_interrupts<L: Ledger>(
     ensures interrupts { vec_capacity interrupts.old ≤ vec_capacity interrupts.new }
     ensures ticks { steps.new ≤ steps.old + length (filter (λ e. nat_lt 0 e.share) s.now.events) }
 {
-    list_active(s, s.events(), Kind::Interrupt, t, steps, listed);
+    list_active(s, events, Kind::Interrupt, t, steps, listed);
     list_highest(s, listed.as_slice(), interrupts);
 }

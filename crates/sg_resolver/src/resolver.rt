@@ -2,8 +2,8 @@
 
 ghost use Rattle.std.specs.Prelude.{◌≡◌, ◌==◌, ℕ, ◌+◌, ◌<◌, ◌≤◌, List, length, map, Contains, Ok, IfOk, IsOk, option_copied, [], ℤ, pos, neg_ℤ, ◌≤ℤ◌, ◌<ℤ◌};
 
+use crate::catalog::Catalog;
 use crate::lists::{list_interrupts, list_normal};
-use crate::lookup::layout_with;
 use crate::order::sorted;
 use crate::picture::Picture;
 use crate::show::Show;
@@ -24,7 +24,7 @@ const CAMPAIGN: usize = 64;
 /// A snapshot with the room that its answers need, taken once.
 #[derive(Debug, Drop)]
 pub struct Resolver {
-    snapshot: Snapshot,
+    catalog: Catalog,
     zone: Zone,
     // the events by order and id
     ordered: Vec<Event>,
@@ -42,9 +42,9 @@ impl Model for Resolver {
 
     ghost Value = { SnapshotRow };
 
-    ghost view = { λ r. r.snapshot };
+    ghost view = { λ r. r.catalog };
 
-    ghost invariant = { λ r. IsReady r.snapshot r.zone r.ordered.items (vec_capacity r.listed) (vec_capacity r.plays) (vec_capacity r.interrupts) };
+    ghost invariant = { λ r. IsReady r.catalog r.zone r.ordered.items (vec_capacity r.listed) (vec_capacity r.plays) (vec_capacity r.interrupts) };
 }
 
 impl Resolver {
@@ -62,10 +62,10 @@ impl Resolver {
         let listed = Vec::with_capacity(alloc, count)?;
         let plays = Vec::with_capacity(alloc, CAMPAIGN * count + 1)?;
         let interrupts = Vec::with_capacity(alloc, count)?;
-        let snapshot = s.clone()?;
+        let catalog = Catalog::new(alloc, s)?;
         let hour = Loop::reserve(alloc)?;
         Ok(Resolver {
-            snapshot,
+            catalog,
             zone,
             ordered,
             listed,
@@ -97,7 +97,7 @@ impl Resolver {
         ensures ticks { steps.new ≤ steps.old + length self.old.events }
     {
         list_normal(
-            &self.snapshot,
+            &self.catalog,
             self.ordered.as_slice(),
             t,
             steps,
@@ -105,7 +105,8 @@ impl Resolver {
             &mut self.plays,
         );
         list_interrupts(
-            &self.snapshot,
+            &self.catalog,
+            self.catalog.snapshot().events(),
             t,
             steps,
             &mut self.listed,
@@ -127,7 +128,7 @@ impl Resolver {
         ensures { result ≡ picture_of self.now show.now }
     {
         let mut picture = Picture::new();
-        if let Some(layout) = layout_with(&self.snapshot, show.layout) {
+        if let Some(layout) = self.catalog.layout(show.layout) {
             fill(&mut picture, layout, show.offset);
         }
         picture
