@@ -4,7 +4,6 @@ use Rattle.std.specs.declared.option.Option.{Option}
 use Rattle.std.specs.Io.KnownBytes.{Consumes, IsAtEnd}
 use Rattle.sg_outside.specs.Causes.{Rose}
 use Rattle.sg_manifest.specs.Snapshot.{SnapshotRow, IsSnapshot}
-use Rattle.sg_manifest.specs.Built.{IsBuilt}
 use Rattle.sg_manifest.specs.Text.{text}
 use Rattle.signage.specs.Texts.{too_long, no_manifest, read_fault, memory_fault}
 use Rattle.signage.specs.Lines.{lines_of}
@@ -18,10 +17,9 @@ pub record Input : Type 0 where
 abbrev pub body_of : List ℕ → List ℕ
 body_of input = if slice_index input (length input - 1) == 10 then take (length input - 1) input else input
 
--- the bytes are the text of this valid snapshot, of a form that is read so far, within the limit of a text
+-- the bytes are the text of this valid snapshot, within the limit of a text
 pub record IsManifest (bytes : List ℕ) (s : SnapshotRow) : Type 0 where
   pub valid : IsSnapshot s
-  pub built : IsBuilt s
   pub short : length bytes ≤ 1048576
   pub is : bytes ≡ text s
 

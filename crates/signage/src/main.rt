@@ -16,6 +16,8 @@ use stop::{Stop, finish};
 use tops::{Outside, top};
 
 mod command;
+#[cfg(test)]
+mod faults;
 mod input;
 mod lines;
 mod place;

@@ -4,7 +4,6 @@ ghost use Rattle.std.specs.Prelude.{◌≡◌, ◌<◌, ◌≤◌, length, take,
 ghost use Rattle.std.specs.Io.KnownBytes.{Appends};
 ghost use Rattle.sg_outside.specs.Causes.{Rose, HasCause};
 ghost use Rattle.sg_outside.specs.Streams.{AppendsPart};
-ghost use Rattle.sg_manifest.specs.Built.{IsBuilt};
 ghost use Rattle.signage.specs.Lines.{line_at, lines_of};
 ghost use Rattle.signage.specs.Preview.{Input, IsPreview};
 ghost use Rattle.signage.specs.Top.{Ends};
@@ -24,7 +23,7 @@ use std::sync::ledger::{Blank, Ledger};
 /// Reads one manifest and writes one line for each moment, by the slot and the picture of the snapshot. The
 /// answer is the status:
 /// - 0: the input was read to its end, and every line was written;
-/// - 3: the input is longer than 1,048,577 bytes, or no manifest of the form that is read so far;
+/// - 3: the input is longer than 1,048,577 bytes, or the text of no valid manifest;
 /// - 4: the source failed;
 /// - 5: the sink failed, and nothing was written after that;
 /// - 9: memory ran out, after the lines of some first moments or before any.
@@ -55,7 +54,6 @@ fn show<L: Ledger, O: Sink>(
     requires name { blank.name ≡ L.name }
     requires parts { blank.parts ≡ L.parts }
     requires some { 0 < blank.parts }
-    requires built { IsBuilt snapshot.now }
     ensures { Prints snapshot.now moments.now result (O.written out.old) (O.written out.new) (O.faults out.old) (O.faults out.new) }
 {
     let mut steps = Steps::<L>::new(blank);

@@ -12,7 +12,7 @@ pub(crate) enum Stop {
     Usage,
     /// The input has more bytes than a manifest may have.
     TooLong,
-    /// The input is no manifest of the form that is read so far.
+    /// The input is the text of no valid manifest.
     NoManifest,
     /// The source failed.
     Read,

@@ -1,23 +1,26 @@
 use crate::placing::places;
+use crate::previews::preview;
 use crate::tops::{Outside, top};
+use sg_base::Moment;
 use sg_outside::{MemSink, MemSource};
 use std::alloc::Global;
 use std::process::Abort;
 use std::test::Fail;
 
 // A manifest of one layout of one medium.
-const PLAIN: &str =
+pub(crate) const PLAIN: &str =
     r#"{"campaigns":[],"dayparts":[],"default":1,"events":[],"files":[{"id":1,"length":3,"md5":"900150983cd24fb0d6963f7d28e17f72"}],"layouts":[{"id":1,"regions":[{"id":1,"items":[{"media":1,"seconds":10}]}]}],"version":1,"zone":{"offset":0}}"#;
 
 // The same with a layout of seven seconds, in a zone an hour behind.
 const SEVEN: &str =
     r#"{"campaigns":[],"dayparts":[],"default":1,"events":[],"files":[{"id":1,"length":3,"md5":"900150983cd24fb0d6963f7d28e17f72"}],"layouts":[{"id":1,"regions":[{"id":1,"items":[{"media":1,"seconds":7}]}]}],"version":1,"zone":{"offset":-60}}"#;
 
-const LINES: &str = "0 e0 l1 s0 o0 r1:m1\n3599 e0 l1 s3590 o9 r1:m1\n3600 e0 l1 s3600 o0 r1:m1\n";
+pub(crate) const LINES: &str =
+    "0 e0 l1 s0 o0 r1:m1\n3599 e0 l1 s3590 o9 r1:m1\n3600 e0 l1 s3600 o0 r1:m1\n";
 
-const USAGE: &str = "usage: signage preview|format|play|serve|edit|report|rehearse\n";
+pub(crate) const USAGE: &str = "usage: signage preview|format|play|serve|edit|report|rehearse\n";
 
-const NOT_BUILT: &str = "input: manifest NotBuilt\n";
+pub(crate) const NOT_BUILT: &str = "input: manifest NotBuilt\n";
 
 // The words of a line, parted by single spaces.
 fn words_of(alloc: Global, line: &str) -> Result<Vec<String>, Fail> {
@@ -73,6 +76,22 @@ fn previews_worked_lines(rt: HostRuntime) -> Result<(), Fail> {
             text,
         )?;
     }
+    Ok(())
+}
+
+#[test]
+fn preview_without_words(rt: HostRuntime) -> Result<(), Fail> {
+    let alloc = rt.alloc();
+    let moments = [
+        Moment::new(0).ok_or("after 2099")?,
+        Moment::new(3599).ok_or("after 2099")?,
+        Moment::new(3600).ok_or("after 2099")?,
+    ];
+    let mut source = source_of(alloc, PLAIN)?;
+    let mut out = MemSink::new(alloc);
+    assert_eq!(rt; preview(alloc, &moments, &mut source, &mut out), 0);
+    assert_eq!(rt; out.bytes(), LINES.as_bytes());
+    assert_eq!(rt; source.faults(), 0);
     Ok(())
 }
 
