@@ -1,0 +1,10 @@
+pub mod Ring
+pub mod DiskLemmas
+pub mod JournalSteps
+pub mod EntryLemmas
+pub mod ReadLemmas
+pub mod Decoded
+pub mod OpenLemmas
+pub mod Recovery
+pub mod SeriesLemmas
+pub mod ReadyLemmas

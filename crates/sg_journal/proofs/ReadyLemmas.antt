@@ -1,0 +1,44 @@
+-- A journal that is ready stays so: at an acknowledgement, and at a write of another client elsewhere on the disk.
+use Rattle.std.proofs.Common.{◌≡◌, ◌⊎◌, ℕ, ◌+◌, ◌-◌, ◌≤◌, List, length, drop, sym, ◌∙◌, ap, subst, arith}
+use Rattle.std.proofs.lemmas.List.{drop-drop}
+use Rattle.sg_base.specs.declared.play.PlayBody.{PlayBody}
+use Rattle.sg_disk.specs.View.{View}
+use Rattle.sg_disk.specs.Runs.{Within}
+use Rattle.sg_disk.specs.Contents.{Contents}
+use Rattle.sg_disk.specs.StandsFor.{HoldsPlays, journal_of, Settled}
+use Rattle.sg_disk.specs.declared.places.TheConstants.{JOURNAL, JOURNAL_LEN}
+use Rattle.sg_disk.proofs.Standing.{floor_raised}
+use Rattle.sg_disk.proofs.Writes.{one_kept, bytes_kept}
+use Rattle.sg_journal.specs.declared.journal.Journal.{Journal}
+use Rattle.sg_journal.specs.Ready.{first_of, next_of, oldest_of, epoch_of, plays_of, IsReady}
+
+-- An acknowledgement raises the floor, and nothing else
+pub acknowledged_ready : (v : View) (j new : Journal) (p : Contents) (next : ℕ) → IsReady v j p → first_of j ≤ next → next ≤ next_of j → first_of new ≡ next → next_of new ≡ next_of j → plays_of new ≡ drop (next - first_of j) (plays_of j) → oldest_of new ≡ oldest_of j → epoch_of new ≡ epoch_of j → IsReady v new (record p { floor = next })
+acknowledged_ready v j new p next ready low high first same_next plays oldest epoch =
+    let starts : 1 ≤ j.first = omega (arith, j.starts, j.known) in
+    let sum : j.first - 1 + (next - j.first) ≡ next - 1 = omega (arith, low) in
+    record {
+      settled = record { told = ready.settled.told; each = λ c now. floor_raised p next c (omega (arith, ready.first, low)) (ready.settled.each c now) };
+      one = ready.one;
+      held = subst (λ (n : ℕ). HoldsPlays p.epoch n p.plays (journal_of v.bytes)) (sym oldest) ready.held;
+      first = first;
+      next = same_next ∙ ready.next;
+      plays = plays ∙ ap (λ (l : List PlayBody). drop (next - first_of j) l) ready.plays ∙ ap (λ (n : ℕ). drop (next - first_of j) (drop (n - 1) p.plays)) (sym ready.first) ∙ drop-drop (next - first_of j) (first_of j - 1) p.plays ∙ ap (λ (n : ℕ). drop n p.plays) sum;
+      epoch = epoch ∙ ready.epoch;
+    }
+
+-- A write outside the journal's area, after which the disk is settled with contents that have the same plays
+pub ready_elsewhere : (v w : View) (j : Journal) (p q : Contents) (place n : ℕ) → IsReady v j p → Settled w q → q.epoch ≡ p.epoch → q.plays ≡ p.plays → q.floor ≡ p.floor → (JOURNAL + JOURNAL_LEN ≤ place) ⊎ (place + n ≤ JOURNAL) → Within place n v w → IsReady w j q
+ready_elsewhere v w j p q place n ready settled epoch plays floor apart within =
+    let told : v.told = ready.settled.told in
+    let same : journal_of w.bytes ≡ journal_of v.bytes = bytes_kept place n JOURNAL JOURNAL_LEN v w told apart within in
+    let here : HoldsPlays p.epoch j.oldest p.plays (journal_of w.bytes) = subst (λ (a : List ℕ). HoldsPlays p.epoch j.oldest p.plays a) (sym same) ready.held in
+    record {
+      settled = settled;
+      one = one_kept place n JOURNAL JOURNAL_LEN v w told apart ready.one within;
+      held = subst (λ (e : ℕ). HoldsPlays e j.oldest q.plays (journal_of w.bytes)) (sym epoch) (subst (λ (l : List PlayBody). HoldsPlays p.epoch j.oldest l (journal_of w.bytes)) (sym plays) here);
+      first = ready.first ∙ sym floor;
+      next = ready.next ∙ ap (λ (l : List PlayBody). length l + 1) (sym plays);
+      plays = ready.plays ∙ ap (λ (n : ℕ). drop (n - 1) p.plays) (sym floor) ∙ ap (λ (l : List PlayBody). drop (q.floor - 1) l) (sym plays);
+      epoch = ready.epoch ∙ sym epoch;
+    }

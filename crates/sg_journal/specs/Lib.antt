@@ -1,0 +1,5 @@
+pub mod Ready
+pub mod BatchPlays
+pub mod Records
+pub mod Entries
+pub mod Series
