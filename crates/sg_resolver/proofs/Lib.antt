@@ -6,4 +6,5 @@ pub mod OrderLemmas
 pub mod ListLemmas
 pub mod ValidLemmas
 pub mod ShownLemmas
+pub mod SteadyLemmas
 mod Examples

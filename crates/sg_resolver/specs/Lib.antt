@@ -1,6 +1,7 @@
 pub mod Rows
 pub mod Lists
 pub mod Shown
+pub mod Steady
 pub mod Ready
 pub mod Kind
 pub mod Catalog

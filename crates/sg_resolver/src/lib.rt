@@ -6,11 +6,13 @@
 //! hour's loop is `sg_voice`'s, zones are `sg_calendar`'s, and activity is `sg_events`'.
 #![tactic(auto)]
 
+pub use law::hour_shows;
 pub use picture::Picture;
 pub use resolver::Resolver;
 pub use show::Show;
 
 mod catalog;
+mod law;
 mod lists;
 mod order;
 mod picture;
