@@ -1,0 +1,12 @@
+pub mod DiskLemmas
+pub mod FreshLemmas
+pub mod SlotLemmas
+pub mod HeaderLemmas
+pub mod OverlapLemmas
+pub mod TableLemmas
+pub mod OpenLemmas
+pub mod StageLemmas
+pub mod ChoiceLemmas
+pub mod SwitchLemmas
+pub mod FillLemmas
+pub mod ReadLemmas

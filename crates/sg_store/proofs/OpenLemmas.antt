@@ -1,0 +1,273 @@
+-- What an opening finds on a disk that stands for contents.
+use Rattle.std.proofs.Common.{◌≡◌, ◌⊎◌, inl, inr, ℕ, ◌+◌, ◌-◌, ◌*◌, ◌^◌, ◌<◌, ◌≤◌, ◌↔◌, Bool, true, List, [], ◌∷◌, ◌++◌, length, get_or, map, Option, None, Some, MatchOption, is_some, if◌then◌else◌, All, AllPairs, IfSome, refl, sym, ◌∙◌, ap, subst, arith, zero-add}
+use Rattle.std.specs.List.{flat_map}
+use Rattle.std.proofs.lemmas.Bool.{cases_eq, lt-ltb, le-ltb, true≢false}
+use Rattle.std.proofs.lemmas.List.{append-nil, length-map, get_or-map}
+use Rattle.md5.specs.Md5.{md5}
+use Rattle.md5.proofs.StandardFacts.{length-md5}
+use Rattle.sg_disk.specs.View.{View, range, Only}
+use Rattle.sg_disk.proofs.Standing.{settled_by, lawful_inside}
+use Rattle.sg_disk.proofs.Writes.{one_stable}
+use Rattle.sg_disk.specs.Contents.{Segment, StoredFile, Contents, IsClear, IsInside, IsExtent, IsSnapshot, IsLawful, segments_of}
+use Rattle.sg_disk.specs.StandsFor.{le32, le64, place_of, entry, HasFields, IsOpen, IsOther, IsCurrent, AreSlots, IsHeld, AreFiles, bytes_at, StandsFor}
+use Rattle.sg_disk.specs.declared.places.TheConstants.{HEADER_LEN, JOURNAL, SLOT_ZERO, SLOT_ONE, SLOT_LEN, TABLE, ENTRY_LEN, DATA, MAX_FILES, MAX_ROOM}
+use Rattle.sg_disk.proofs.Ranges.{range-range, byte_in}
+use Rattle.sg_disk.proofs.Extents.{extent_of, segments-extent, segments_of-extents}
+use Rattle.sg_placing.specs.Placing.{segment_of, placed_of}
+use Rattle.sg_placing.specs.declared.placed.Placed.{Placed}
+use Rattle.sg_store.specs.Bytes.{u32_at, u64_at, entries_of}
+use Rattle.sg_store.specs.Slots.{slot_place, slot_of, opposite, head_at, files_of, files_at, spare_at, in_slot, head_number, head_text}
+use Rattle.sg_store.specs.Ready.{whole_files, half_files, taken_files, IsWhole, IsBegun, AreApart, HasStaged, Knows, IsReady, text_length}
+use Rattle.sg_store.specs.declared.store.Store.{Store}
+use Rattle.sg_store.specs.declared.store.Half.{Half}
+use Rattle.sg_store.specs.declared.slots.Slot.{Slot}
+use Rattle.sg_store.specs.declared.slots.Slot.TheVariants.{Zero, One}
+use Rattle.sg_store.specs.declared.slots.Head.{Head}
+use Rattle.sg_store.proofs.SlotLemmas.{u32_in_range, head_open, head_closed}
+use Rattle.sg_store.proofs.TableLemmas.{FitsEntry, number_at, long_at, entries_back}
+
+-- the gate of a slot
+pub gate_of : (slot : Slot) (c : List ℕ) → get_or (slot_of slot c) 0 0 ≡ get_or c (slot_place slot) 0
+gate_of slot c = let at : slot_place slot + 0 ≡ slot_place slot = omega arith in byte_in c (slot_place slot) SLOT_LEN 0 (omega arith) ∙ ap (λ (k : ℕ). get_or c k 0) at
+
+-- a number of a slot
+field_of : (slot : Slot) (c : List ℕ) (p n : ℕ) → p + 4 ≤ SLOT_LEN → n < 2 ^ 32 → range (slot_of slot c) p 4 ≡ le32 n → u32_at c (slot_place slot + p) ≡ n
+field_of slot c p n le lt is = sym (u32_in_range c (slot_place slot) SLOT_LEN p le) ∙ number_at (slot_of slot c) p n lt is
+
+-- the head of an open slot
+pub head_stands : (slot : Slot) (c : List ℕ) (number : ℕ) (text : List ℕ) (files : List StoredFile) → number < 2 ^ 32 → length text < 2 ^ 32 → length files < 2 ^ 32 → IsOpen (slot_of slot c) → HasFields number text files (slot_of slot c) → head_at slot c ≡ Some (record { number = number; text = length text; count = length files })
+head_stands slot c number text files number_fits text_fits files_fit opened has =
+    let one : u32_at c (slot_place slot + 4) ≡ number = field_of slot c 4 number (omega arith) number_fits has.number_is in
+    let two : u32_at c (slot_place slot + 8) ≡ length text = field_of slot c 8 (length text) (omega arith) text_fits has.long in
+    let three : u32_at c (slot_place slot + 12) ≡ length files = field_of slot c 12 (length files) (omega arith) files_fit has.count in
+    head_open slot c (sym (gate_of slot c) ∙ opened) ∙ ap (λ (n : ℕ). made n (u32_at c (slot_place slot + 8)) (u32_at c (slot_place slot + 12))) one
+    ∙ ap (λ (n : ℕ). made number n (u32_at c (slot_place slot + 12))) two ∙ ap (λ (n : ℕ). made number (length text) n) three
+  where
+    made : ℕ → ℕ → ℕ → Option Head
+    made number text count = Some (record { number = number; text = text; count = count })
+
+-- its files
+pub files_stand : (slot : Slot) (c : List ℕ) (number : ℕ) (text : List ℕ) (files : List StoredFile) (head : Head) → length files ≤ MAX_FILES → All FitsEntry files → head.count ≡ length files → HasFields number text files (slot_of slot c) → files_of slot (Some head) c ≡ map placed_of files
+files_stand slot c number text files head few fit count has =
+    let same : range c (slot_place slot + TABLE) (ENTRY_LEN * length files) ≡ flat_map entry files = sym (range-range c (slot_place slot) SLOT_LEN TABLE (ENTRY_LEN * length files) (omega (arith, few))) ∙ has.table in
+    ap (λ (n : ℕ). entries_of (range c (slot_place slot + TABLE) (ENTRY_LEN * n)) n) count ∙ ap (λ (t : List ℕ). entries_of t (length files)) same ∙ entries_back files fit
+
+-- the files of lawful contents, which the disk holds, fit the entries of a table
+pub files_fit : (room number : ℕ) (text : List ℕ) (files : List StoredFile) → room ≤ MAX_ROOM → IsSnapshot room number text files → All (λ f. length f.listed.md5 ≡ 16) files → All FitsEntry files
+files_fit room number text files small snapshot digests k d lt =
+    let f : StoredFile = get_or files k d in
+    let extent : f.segments ≡ extent_of f ∷ [] = segments-extent f (snapshot.extents k d lt) in
+    let inside : IsInside room (get_or f.segments 0 (extent_of f)) = snapshot.inside k d lt 0 (extent_of f) (omega (arith, ap length extent)) in
+    let here : IsInside room (extent_of f) = subst (λ (l : List Segment). IsInside room (get_or l 0 (extent_of f))) extent inside in
+    let ids = snapshot.listed.ids k d lt in
+    let lengths = snapshot.listed.lengths k d lt in
+    record {
+      media = ids.1;
+      long = omega (arith, lengths.1);
+      digest = digests k d lt;
+      place = omega (arith, here.1, small);
+    }
+
+-- the digests of files that the disk holds
+pub digests_held : (files : List StoredFile) (area : List ℕ) → AreFiles files area → All (λ f. length f.listed.md5 ≡ 16) files
+digests_held files area held k d lt =
+    let f : StoredFile = get_or files k d in
+    ap length (sym (held k d lt).digest) ∙ length-md5 f.bytes
+
+-- the head of the other slot has a lower number
+other_lower : (slot : Slot) (c : List ℕ) (room number : ℕ) → number < 2 ^ 32 → IsOther room number (slot_of slot c) → (head_at slot c ≡ None) ⊎ ((head : Head) × (head_at slot c ≡ Some head) × (head.number < number))
+other_lower slot c room number fits other = elim (cases_eq (get_or c (slot_place slot) 0) 1) [
+  | inr closed ↦ inl (head_closed slot c closed)
+  | inl opened ↦
+      let o = other (gate_of slot c ∙ opened) in
+      inr (
+        record { number = o.0; text = length o.1; count = length o.2 },
+        head_stands slot c o.0 o.1 o.2 (omega (arith, o.3, fits)) (omega (arith, o.5.long.1)) (omega (arith, o.5.listed.few)) (gate_of slot c ∙ opened) o.4,
+        o.3,
+      )
+]
+
+-- the slot that is chosen
+chosen_one : (current : Head) (other : Option Head) → (other ≡ None) ⊎ ((head : Head) × (other ≡ Some head) × (head.number < current.number)) → spare_at (Some current) other ≡ One
+chosen_one current other (inl none) = ap (λ (h : Option Head). spare_at (Some current) h) none
+chosen_one current other (inr head) = ap (λ (h : Option Head). spare_at (Some current) h) head.1 ∙ ap (λ (b : Bool). if b then Zero else One) (le-ltb current.number head.0.number (omega (arith, head.2)))
+
+chosen_zero : (other : Option Head) (current : Head) → (other ≡ None) ⊎ ((head : Head) × (other ≡ Some head) × (head.number < current.number)) → spare_at other (Some current) ≡ Zero
+chosen_zero other current (inl none) = ap (λ (h : Option Head). spare_at h (Some current)) none
+chosen_zero other current (inr head) = ap (λ (h : Option Head). spare_at h (Some current)) head.1 ∙ ap (λ (b : Bool). if b then Zero else One) (lt-ltb head.0.number current.number head.2)
+
+-- an opening chooses the slot beside the current one
+pub spare_found : (c : List ℕ) (room number : ℕ) (text : List ℕ) (files : List StoredFile) → number < 2 ^ 32 → length text < 2 ^ 32 → length files < 2 ^ 32 → IsCurrent room number text files (slot_of Zero c) (slot_of One c) ⊎ IsCurrent room number text files (slot_of One c) (slot_of Zero c) → IsCurrent room number text files (slot_of (opposite (spare_at (head_at Zero c) (head_at One c))) c) (slot_of (spare_at (head_at Zero c) (head_at One c)) c)
+spare_found c room number text files number_fits text_fits files_fit (inl is) =
+    let head = head_stands Zero c number text files number_fits text_fits files_fit is.gate is.fields in
+    let spare : spare_at (head_at Zero c) (head_at One c) ≡ One = ap (λ (h : Option Head). spare_at h (head_at One c)) head ∙ chosen_one (record { number = number; text = length text; count = length files }) (head_at One c) (other_lower One c room number number_fits is.rest) in
+    subst (λ (s : Slot). IsCurrent room number text files (slot_of (opposite s) c) (slot_of s c)) (sym spare) is
+spare_found c room number text files number_fits text_fits files_fit (inr is) =
+    let head = head_stands One c number text files number_fits text_fits files_fit is.gate is.fields in
+    let spare : spare_at (head_at Zero c) (head_at One c) ≡ Zero = ap (λ (h : Option Head). spare_at (head_at Zero c) h) head ∙ chosen_zero (head_at Zero c) (record { number = number; text = length text; count = length files }) (other_lower Zero c room number number_fits is.rest) in
+    subst (λ (s : Slot). IsCurrent room number text files (slot_of (opposite s) c) (slot_of s c)) (sym spare) is
+
+-- a gate is open where its slot has a head
+pub gate_found : (slot : Slot) (c : List ℕ) (opened : Bool) → opened ≡ is_some (head_at slot c) → (opened ≡ true) ↔ IsOpen (slot_of slot c)
+gate_found slot c opened is = elim (cases_eq (get_or c (slot_place slot) 0) 1) [
+  | inl open_now ↦ (λ _. gate_of slot c ∙ open_now, λ _. is ∙ ap (λ (h : Option Head). is_some h) (head_open slot c open_now))
+  | inr closed ↦ (
+    λ yes. absurd (true≢false (sym yes ∙ is ∙ ap (λ (h : Option Head). is_some h) (head_closed slot c closed))),
+    λ open_now. absurd (closed (sym (gate_of slot c) ∙ open_now)),
+  )
+]
+
+-- the bytes of a file that the disk holds are whole
+pub whole_held : (room : ℕ) (c : List ℕ) (f : StoredFile) → IsExtent f → All (IsInside room) f.segments → IsHeld (range c DATA room) f → IsWhole c (placed_of f)
+whole_held room c f is inside held =
+    let extent : f.segments ≡ extent_of f ∷ [] = segments-extent f is in
+    let at = inside 0 (extent_of f) (omega (arith, ap length extent)) in
+    let here : IsInside room (extent_of f) = subst (λ (l : List Segment). IsInside room (get_or l 0 (extent_of f))) extent at in
+    let place : DATA + (place_of f.segments - DATA) ≡ place_of f.segments = omega (arith, here.0) in
+    let bytes : range c (place_of f.segments) f.listed.length ++ [] ≡ f.bytes =
+    ap (λ (k : ℕ). range c k f.listed.length ++ []) (sym place) ∙ ap (λ (l : List ℕ). l ++ []) (sym (range-range c DATA room (place_of f.segments - DATA) f.listed.length (omega (arith, here.1, here.0))))
+    ∙ ap (λ (l : List Segment). bytes_at (range c DATA room) l) (sym extent) ∙ held.there in
+    ap md5 bytes ∙ held.digest
+
+-- files that stand apart as segments do so as placed files
+pub apart_placed : (files : List StoredFile) → All IsExtent files → AllPairs (λ s t. IsClear t.place t.size s) (segments_of files) → AreApart (map placed_of files)
+apart_placed files extents apart i j d lt below =
+    let far : j < length files = omega (arith, below, length-map files placed_of) in
+    let near : i < length files = omega (arith, lt, far) in
+    let f : StoredFile = get_or files i nothing in
+    let g : StoredFile = get_or files j nothing in
+    let pairs : AllPairs (λ s t. IsClear t.place t.size s) (map extent_of files) = subst (λ (l : List Segment). AllPairs (λ s t. IsClear t.place t.size s) l) (segments_of-extents files extents) apart in
+    let e : Segment = extent_of nothing in
+    let pair = pairs i j e lt (omega (arith, far, length-map files extent_of)) in
+    let first : get_or (map extent_of files) i e ≡ extent_of f = get_or-map extent_of files i nothing e near in
+    let second : get_or (map extent_of files) j e ≡ extent_of g = get_or-map extent_of files j nothing e far in
+    let clear : IsClear (place_of g.segments) g.listed.length (extent_of f) = subst (λ (s : Segment). IsClear (extent_of g).place (extent_of g).size s) first (subst (λ (t : Segment). IsClear t.place t.size (get_or (map extent_of files) i e)) second pair) in
+    let one : get_or (map placed_of files) i d ≡ placed_of f = get_or-map placed_of files i nothing d near in
+    let two : get_or (map placed_of files) j d ≡ placed_of g = get_or-map placed_of files j nothing d far in
+    subst (λ (p : Placed). IsClear (get_or (map placed_of files) j d).place (get_or (map placed_of files) j d).file.length (segment_of p)) (sym one) (subst (λ (q : Placed). IsClear q.place q.file.length (segment_of (placed_of f))) (sym two) clear)
+  where
+    nothing : StoredFile
+    nothing = record { listed = record { media = record { 0 = 0 }; length = 0; md5 = [] }; segments = []; bytes = [] }
+
+-- what stands in the slot that isn't spare
+pub in_opposite : (spare : Slot) (c : List ℕ) (first second : Option Head) → first ≡ head_at Zero c → second ≡ head_at One c → in_slot spare second first ≡ head_at (opposite spare) c
+in_opposite Zero c first second one two = two
+in_opposite One c first second one two = one
+
+pub in_spare : (spare : Slot) (c : List ℕ) (first second : Option Head) → first ≡ head_at Zero c → second ≡ head_at One c → in_slot spare first second ≡ head_at spare c
+in_spare Zero c first second one two = one
+in_spare One c first second one two = two
+
+pub files_opposite : (spare : Slot) (c : List ℕ) (first second : List Placed) → first ≡ files_at Zero c → second ≡ files_at One c → in_slot spare second first ≡ files_at (opposite spare) c
+files_opposite Zero c first second one two = two
+files_opposite One c first second one two = one
+
+-- what an opening has read
+pub record Found (s : Store) (c : List ℕ) : Type 0 where
+  pub display : s.display ≡ u32_at c 16
+  pub epoch : s.epoch ≡ u32_at c 20
+  pub room : s.room ≡ u64_at c 24
+  pub spare : s.spare ≡ spare_at (head_at Zero c) (head_at One c)
+  pub gate : s.spare_open ≡ is_some (head_at s.spare c)
+  pub number : s.number ≡ head_number (head_at (opposite s.spare) c)
+  pub text : s.text ≡ head_text (head_at (opposite s.spare) c)
+  pub files : s.current ≡ files_at (opposite s.spare) c
+  pub staged : s.staged ≡ []
+  pub half : s.half ≡ None
+
+-- the current snapshot that an opening has found
+pub record Snapshot (spare : Slot) (p : Contents) (c : List ℕ) : Type 0 where
+  pub number : head_number (head_at (opposite spare) c) ≡ p.number
+  pub text : head_text (head_at (opposite spare) c) ≡ text_length p.text
+  pub files : files_at (opposite spare) c ≡ map placed_of p.files
+  pub slot : MatchOption p.text (Unit {0}) (λ text. IsCurrent p.room p.number text p.files (slot_of (opposite spare) c) (slot_of spare c))
+
+found_some : (spare : Slot) (c : List ℕ) (room number : ℕ) (text : List ℕ) (files : List StoredFile) → room ≤ MAX_ROOM → IsSnapshot room number text files → AreFiles files (range c DATA room) → IsCurrent room number text files (slot_of (opposite spare) c) (slot_of spare c) → (head_at (opposite spare) c ≡ Some (record { number = number; text = length text; count = length files })) × (files_at (opposite spare) c ≡ map placed_of files)
+found_some spare c room number text files small snapshot held is =
+    let fit : All FitsEntry files = files_fit room number text files small snapshot (digests_held files (range c DATA room) held) in
+    let head = head_stands (opposite spare) c number text files snapshot.numbered.1 (omega (arith, snapshot.long.1)) (omega (arith, snapshot.listed.few)) is.gate is.fields in
+    (head, ap (λ (h : Option Head). files_of (opposite spare) h c) head ∙ files_stand (opposite spare) c number text files (record { number = number; text = length text; count = length files }) snapshot.listed.few fit refl is.fields)
+
+found_in : (c : List ℕ) (p : Contents) (text : Option (List ℕ)) → p.text ≡ text → p.room ≤ MAX_ROOM → MatchOption text ((p.number ≡ 0) × (p.files ≡ [])) (λ t. IsSnapshot p.room p.number t p.files) → AreSlots p.room p.number text p.files (range c SLOT_ZERO SLOT_LEN) (range c SLOT_ONE SLOT_LEN) → AreFiles p.files (range c DATA p.room) → Snapshot (spare_at (head_at Zero c) (head_at One c)) p c
+found_in c p None is small none slots held =
+    let zero_shut : head_at Zero c ≡ None = head_closed Zero c (λ opened. slots.0 (gate_of Zero c ∙ opened)) in
+    let one_shut : head_at One c ≡ None = head_closed One c (λ opened. slots.1 (gate_of One c ∙ opened)) in
+    let spare : spare_at (head_at Zero c) (head_at One c) ≡ Zero = ap (λ (h : Option Head). spare_at h (head_at One c)) zero_shut in
+    let current : head_at (opposite (spare_at (head_at Zero c) (head_at One c))) c ≡ None = ap (λ (s : Slot). head_at (opposite s) c) spare ∙ one_shut in
+    record {
+      number = ap head_number current ∙ sym none.0;
+      text = ap head_text current ∙ sym (ap text_length is);
+      files = ap (λ (h : Option Head). files_of (opposite (spare_at (head_at Zero c) (head_at One c))) h c) current ∙ sym (ap (map placed_of) none.1);
+      slot = subst (λ (t : Option (List ℕ)). MatchOption t (Unit {0}) (λ text. IsCurrent p.room p.number text p.files (slot_of (opposite (spare_at (head_at Zero c) (head_at One c))) c) (slot_of (spare_at (head_at Zero c) (head_at One c)) c))) (sym is) tt;
+    }
+found_in c p (Some t) is small snapshot slots held =
+    let spare : Slot = spare_at (head_at Zero c) (head_at One c) in
+    let current = spare_found c p.room p.number t p.files snapshot.numbered.1 (omega (arith, snapshot.long.1)) (omega (arith, snapshot.listed.few)) slots in
+    let both = found_some spare c p.room p.number t p.files small snapshot held current in
+    record {
+      number = ap head_number both.0;
+      text = ap head_text both.0 ∙ sym (ap text_length is);
+      files = both.1;
+      slot = subst (λ (o : Option (List ℕ)). MatchOption o (Unit {0}) (λ text. IsCurrent p.room p.number text p.files (slot_of (opposite spare) c) (slot_of spare c))) (sym is) current;
+    }
+
+-- a number of the header
+header_number : (c : List ℕ) (p n : ℕ) → p + 4 ≤ HEADER_LEN → n < 2 ^ 32 → range (range c 0 HEADER_LEN) p 4 ≡ le32 n → u32_at c p ≡ n
+header_number c p n le lt is = number_at c p n lt (sym (ap (λ (k : ℕ). range c k 4) (zero-add p)) ∙ sym (range-range c 0 HEADER_LEN p 4 le) ∙ is)
+
+header_long_number : (c : List ℕ) (p n : ℕ) → p + 8 ≤ HEADER_LEN → n < 2 ^ 64 → range (range c 0 HEADER_LEN) p 8 ≡ le64 n → u64_at c p ≡ n
+header_long_number c p n le lt is = long_at c p n lt (sym (ap (λ (k : ℕ). range c k 8) (zero-add p)) ∙ sym (range-range c 0 HEADER_LEN p 8 le) ∙ is)
+
+-- the files of lawful contents
+extents_in : (room number : ℕ) (text : Option (List ℕ)) (files : List StoredFile) → MatchOption text ((number ≡ 0) × (files ≡ [])) (λ t. IsSnapshot room number t files) → All IsExtent files
+extents_in room number None files none k d lt = absurd (omega (arith, lt, ap length none.1))
+extents_in room number (Some t) files snapshot k d lt = snapshot.extents k d lt
+
+pub extents_of : (p : Contents) → IsLawful p → All IsExtent p.files
+extents_of p lawful = extents_in p.room p.number p.text p.files lawful.snapshot
+
+apart_in : (room number : ℕ) (text : Option (List ℕ)) (files : List StoredFile) → MatchOption text ((number ≡ 0) × (files ≡ [])) (λ t. IsSnapshot room number t files) → AllPairs (λ s t. IsClear t.place t.size s) (segments_of files)
+apart_in room number None files none = subst (λ (l : List StoredFile). AllPairs (λ s t. IsClear t.place t.size s) (segments_of l)) (sym none.1) (λ i j d lt below. absurd (omega (arith, below)))
+apart_in room number (Some t) files snapshot = snapshot.apart
+
+pub apart_of : (p : Contents) → IsLawful p → AllPairs (λ s t. IsClear t.place t.size s) (segments_of p.files)
+apart_of p lawful = apart_in p.room p.number p.text p.files lawful.snapshot
+
+pub whole_all : (files : List StoredFile) (room : ℕ) (c : List ℕ) → All IsExtent files → All (λ f. All (IsInside room) f.segments) files → AreFiles files (range c DATA room) → All (IsWhole c) (map placed_of files)
+whole_all files room c extents inside held k d lt =
+    let near : k < length files = omega (arith, lt, length-map files placed_of) in
+    let nothing : StoredFile = record { listed = record { media = record { 0 = 0 }; length = 0; md5 = [] }; segments = []; bytes = [] } in
+    subst (IsWhole c) (sym (get_or-map placed_of files k nothing d near)) (whole_held room c (get_or files k nothing) (extents k nothing near) (inside k nothing near) (held k nothing near))
+
+-- the files of contents are whole and apart
+pub staged_none : (s : Store) (p : Contents) (c : List ℕ) → s.current ≡ map placed_of p.files → s.staged ≡ [] → s.half ≡ None → IsLawful p → AreFiles p.files (range c DATA p.room) → HasStaged s c
+staged_none s p c files staged half lawful held =
+    let all : whole_files s ≡ map placed_of p.files = ap (λ (l : List Placed). s.current ++ l) staged ∙ append-nil s.current ∙ files in
+    let taken : taken_files s ≡ map placed_of p.files = ap (λ (h : Option Half). whole_files s ++ half_files h) half ∙ append-nil (whole_files s) ∙ all in
+    record {
+      whole = subst (All (IsWhole c)) (sym all) (whole_all p.files p.room c (extents_of p lawful) (lawful_inside p lawful) held);
+      begun = subst (λ (h : Option Half). IfSome h (IsBegun c)) (sym half) tt;
+      apart = subst AreApart (sym taken) (apart_placed p.files (extents_of p lawful) (apart_of p lawful));
+    }
+
+-- an opening that has read a disk which stands for contents
+pub opened : (v w : View) (s : Store) (r : Contents) → w.told → Only v.bytes w → w.bytes ≡ v.bytes → Found s v.bytes → StandsFor r v.bytes → IsReady w s r
+opened v w s r told only bytes found stands =
+    let c : List ℕ = v.bytes in
+    let snapshot : Snapshot s.spare r c = subst (λ (x : Slot). Snapshot x r c) (sym found.spare) (found_in c r r.text refl stands.lawful.room.high stands.lawful.snapshot stands.slots stands.files) in
+    let files : s.current ≡ map placed_of r.files = found.files ∙ snapshot.files in
+    record {
+      settled = settled_by w c r told only stands;
+      front = one_stable 0 JOURNAL w (subst (λ (b : List ℕ). Only b w) (sym bytes) only);
+      knows = subst (Knows s r) (sym bytes) (record {
+        display = found.display ∙ header_number c 16 r.display (omega arith) stands.lawful.display.1 stands.header.display_is;
+        epoch = found.epoch ∙ header_number c 20 r.epoch (omega arith) stands.lawful.epoch.1 stands.header.epoch_is;
+        room = found.room ∙ header_long_number c 24 r.room (omega arith) (omega (arith, stands.lawful.room.high)) stands.header.room_is;
+        number = found.number ∙ snapshot.number;
+        text = found.text ∙ snapshot.text;
+        files = files;
+        slot = snapshot.slot;
+        gate = gate_found s.spare c s.spare_open found.gate;
+      });
+      staged = subst (HasStaged s) (sym bytes) (staged_none s r c files found.staged found.half stands.lawful stands.files);
+    }

@@ -1,0 +1,284 @@
+-- What is staged beside the snapshot.
+use Rattle.std.proofs.Common.{◌≡◌, ◌⊎◌, inl, inr, ℕ, zero, suc, ◌+◌, ◌<◌, ◌≤◌, Bool, List, [], ◌∷◌, ◌++◌, length, get_or, Option, None, Some, find, filter, cond, map, take, drop, MatchOption, All, AllPairs, IfSome, IsSomeAnd, refl, sym, ◌∙◌, ap, subst, arith, length-append}
+use Rattle.std.proofs.lemmas.Bool.{cases_lt, cases_Bool}
+use Rattle.std.proofs.lemmas.List.{append-nil, append_assoc, get_or_append_left, get_or_push, length_push, get_or-map, length-map, drop-drop}
+use Rattle.std.proofs.Math.Seq.{take-add}
+use Rattle.std.proofs.lemmas.List.Folds.{find-append}
+use Rattle.std.proofs.lemmas.List.Elements.{All-append, All-push, All-filter}
+use Rattle.sg_placing.proofs.GapLemmas.{All-front, All-back}
+use Rattle.std.proofs.lemmas.List.Quantifiers.{all_pairs_push}
+use Rattle.std.specs.Option.{option_or}
+use Rattle.md5.specs.Md5.{md5, Holds}
+use Rattle.sg_disk.specs.View.{View, range, put, Torn, Written, Passed, Elapses, Follows}
+use Rattle.sg_disk.specs.Runs.{LeavesOnly, Within}
+use Rattle.sg_disk.specs.Contents.{Segment, Contents, IsClear, AreClear, IsLawful}
+use Rattle.sg_disk.specs.StandsFor.{IsOpen, IsCurrent, StandsFor, Settled}
+use Rattle.sg_disk.specs.declared.places.TheConstants.{SLOT_ZERO, SLOT_ONE, SLOT_LEN, JOURNAL, DATA}
+use Rattle.sg_disk.proofs.Ranges.{range_kept, range_put, put_is_torn, length-range}
+use Rattle.sg_disk.proofs.Moments.{one_call}
+use Rattle.sg_disk.proofs.Writes.{one_kept, bytes_kept, within_wider}
+use Rattle.sg_disk.proofs.Standing.{settled_read, settled_leaves}
+use Rattle.sg_disk.proofs.Extents.{clear_extents}
+use Rattle.sg_disk.proofs.Areas.{staged}
+use Rattle.sg_store.specs.Slots.{slot_of, opposite}
+use Rattle.sg_store.specs.declared.slots.Slot.{Slot}
+use Rattle.sg_store.specs.declared.slots.Slot.TheVariants.{Zero, One}
+use Rattle.sg_store.proofs.OpenLemmas.{extents_of}
+use Rattle.sg_placing.specs.Placing.{segment_of, placed_of, IsPlaced, IsFree, IsLongest}
+use Rattle.sg_placing.specs.declared.placed.Placed.{Placed}
+use Rattle.sg_store.specs.Ready.{whole_files, half_files, taken_files, IsWhole, IsBegun, AreApart, HasStaged, KeepsSnapshot, Knows, IsHalf, IsReady}
+use Rattle.sg_store.specs.declared.store.Store.{Store}
+use Rattle.sg_store.specs.declared.store.Half.{Half}
+
+-- where no gap has the bytes, the longest one is shorter
+pub refused_gap : (room need longest : ℕ) (taken : List Placed) → 1 ≤ need → ((q : ℕ) → IsFree room taken need q → ⊥) → IsLongest room taken longest → longest < need
+refused_gap room need longest taken some none is = elim (cases_lt longest need) [
+  | inl short ↦ short
+  | inr long ↦
+      let found = is.found (omega (arith, some, long)) in
+      absurd (none found.0 (record { low = found.1.low; high = omega (arith, found.1.high, long); clear = smaller found.0 long found.1.clear }))
+]
+  where
+    smaller : (place : ℕ) → need ≤ longest → All (λ p. IsClear place longest (segment_of p)) taken → All (λ p. IsClear place need (segment_of p)) taken
+    smaller place le clear k d lt = elim (clear k d lt) [
+      | inl below ↦ inl below
+      | inr above ↦ inr (omega (arith, above, le))
+    ]
+
+-- a file more, apart from the others
+pub apart_more : (files : List Placed) (p : Placed) → AreApart files → All (λ q. IsClear p.place p.file.length (segment_of q)) files → AreApart (files ++ p ∷ [])
+apart_more files p apart clear = all_pairs_push (λ q r. IsClear r.place r.file.length (segment_of q)) files p apart clear
+
+range_nothing : (c : List ℕ) (place : ℕ) → range c place 0 ≡ []
+unfolding range
+range_nothing c place = refl
+
+-- a file is begun in a gap
+pub begun_in_gap : (old new : Store) (c : List ℕ) (room : ℕ) (half : Half) → new.current ≡ old.current → new.staged ≡ old.staged → old.half ≡ None → new.half ≡ Some half → half.count ≡ 0 → Holds half.hasher [] → IsFree room (taken_files old) half.placed.file.length half.placed.place → HasStaged old c → HasStaged new c
+begun_in_gap old new c room half current staged idle is count holds free has =
+    let whole : whole_files new ≡ whole_files old = ap (λ (l : List Placed). l ++ new.staged) current ∙ ap (λ (l : List Placed). old.current ++ l) staged in
+    let before : taken_files old ≡ whole_files old = ap (λ (h : Option Half). whole_files old ++ half_files h) idle ∙ append-nil (whole_files old) in
+    let taken : taken_files new ≡ whole_files old ++ half.placed ∷ [] = ap (λ (h : Option Half). whole_files new ++ half_files h) is ∙ ap (λ (l : List Placed). l ++ half.placed ∷ []) whole in
+    let Clear : List Placed → Type 0 = λ l. All (λ q. IsClear half.placed.place half.placed.file.length (segment_of q)) l in
+    record {
+      whole = subst (All (IsWhole c)) (sym whole) has.whole;
+      begun = subst (λ (h : Option Half). IfSome h (IsBegun c)) (sym is) (subst (Holds half.hasher) (sym (nothing c half.placed.place half.count count)) holds);
+      apart = subst AreApart (sym taken) (apart_more (whole_files old) half.placed (subst AreApart before has.apart) (subst Clear before free.clear));
+    }
+  where
+    nothing : (c : List ℕ) (place n : ℕ) → n ≡ 0 → range c place n ≡ []
+    nothing c place n is = ap (λ (k : ℕ). range c place k) is ∙ range_nothing c place
+
+-- the lists that a search for a gap goes over, where nothing is half staged
+pub taken_idle : (s : Store) (xs ys : List Placed) → xs ≡ s.current → ys ≡ s.staged → s.half ≡ None → xs ++ ys ≡ taken_files s
+taken_idle s xs ys first second idle =
+    ap (λ (l : List Placed). l ++ ys) first ∙ ap (λ (l : List Placed). s.current ++ l) second ∙ sym (append-nil (whole_files s)) ∙ ap (λ (h : Option Half). whole_files s ++ half_files h) (sym idle)
+
+-- pairs of a list, by its front
+pairs_tail : {X : Type 0} (R : X → X → Type 0) (x : X) (xs : List X) → AllPairs R (x ∷ xs) → AllPairs R xs
+pairs_tail R x xs all i j d lt below = all (suc i) (suc j) d (omega (arith, lt)) (omega (arith, below))
+
+pairs_head : {X : Type 0} (R : X → X → Type 0) (x : X) (xs : List X) → AllPairs R (x ∷ xs) → All (R x) xs
+pairs_head R x xs all k d lt = all zero (suc k) d (omega arith) (omega (arith, lt))
+
+pairs_cons : {X : Type 0} (R : X → X → Type 0) (x : X) (xs : List X) → All (R x) xs → AllPairs R xs → AllPairs R (x ∷ xs)
+pairs_cons R x xs one rest zero zero d lt below = absurd (omega (arith, lt))
+pairs_cons R x xs one rest zero (suc j) d lt below = one j d (omega (arith, below))
+pairs_cons R x xs one rest (suc i) zero d lt below = absurd (omega (arith, lt))
+pairs_cons R x xs one rest (suc i) (suc j) d lt below = rest i j d (omega (arith, lt)) (omega (arith, below))
+
+pub pairs_front : {X : Type 0} (R : X → X → Type 0) (xs ys : List X) → AllPairs R (xs ++ ys) → AllPairs R xs
+pairs_front R [] ys all = λ i j d lt below. absurd (omega (arith, below))
+pairs_front R (x ∷ xs) ys all = pairs_cons R x xs (All-front (R x) xs ys (pairs_head R x (xs ++ ys) all)) (pairs_front R xs ys (pairs_tail R x (xs ++ ys) all))
+
+-- with some of the middle left out
+all_fewer : {X : Type 0} (P : X → Type 0) (test : X → Bool) (xs ys zs : List X) → All P (xs ++ (ys ++ zs)) → All P (xs ++ (filter test ys ++ zs))
+all_fewer P test xs ys zs all =
+    let rest : All P (ys ++ zs) = All-back P xs (ys ++ zs) all in
+    All-append P xs (filter test ys ++ zs) (All-front P xs (ys ++ zs) all) (All-append P (filter test ys) zs (All-filter test P ys (All-front P ys zs rest)) (All-back P ys zs rest))
+
+pairs_fewer_front : {X : Type 0} (R : X → X → Type 0) (test : X → Bool) (ys zs : List X) → AllPairs R (ys ++ zs) → AllPairs R (filter test ys ++ zs)
+pairs_fewer_front R test [] zs all = all
+pairs_fewer_front {X} R test (y ∷ ys) zs all =
+    let rest : AllPairs R (filter test ys ++ zs) = pairs_fewer_front R test ys zs (pairs_tail R y (ys ++ zs) all) in
+    let one : All (R y) (filter test ys ++ zs) = all_fewer (R y) test [] ys zs (pairs_head R y (ys ++ zs) all) in
+    elim (cases_Bool (test y)) [
+      | inl passes ↦ subst (λ (b : Bool). AllPairs R (cond b (y ∷ filter test ys) (filter test ys) ++ zs)) (sym passes) (pairs_cons R y (filter test ys ++ zs) one rest)
+      | inr fails ↦ subst (λ (b : Bool). AllPairs R (cond b (y ∷ filter test ys) (filter test ys) ++ zs)) (sym fails) rest
+    ]
+
+pub pairs_fewer : {X : Type 0} (R : X → X → Type 0) (test : X → Bool) (xs ys zs : List X) → AllPairs R (xs ++ (ys ++ zs)) → AllPairs R (xs ++ (filter test ys ++ zs))
+pairs_fewer R test [] ys zs all = pairs_fewer_front R test ys zs all
+pairs_fewer R test (x ∷ xs) ys zs all =
+    pairs_cons R x (xs ++ (filter test ys ++ zs)) (all_fewer (R x) test xs ys zs (pairs_head R x (xs ++ (ys ++ zs)) all)) (pairs_fewer R test xs ys zs (pairs_tail R x (xs ++ (ys ++ zs)) all))
+
+-- some sealed files are given up, and maybe the half staged one
+pub kept_staged : (old new : Store) (c : List ℕ) (test : Placed → Bool) → new.current ≡ old.current → new.staged ≡ filter test old.staged → (new.half ≡ old.half) ⊎ (new.half ≡ None) → HasStaged old c → HasStaged new c
+kept_staged old new c test current staged half has =
+    let whole : whole_files new ≡ old.current ++ filter test old.staged = ap (λ (l : List Placed). l ++ new.staged) current ∙ ap (λ (l : List Placed). old.current ++ l) staged in
+    let Apart : Placed → Placed → Type 0 = λ p q. IsClear q.place q.file.length (segment_of p) in
+    let all : AllPairs Apart (old.current ++ (old.staged ++ half_files old.half)) = subst (AllPairs Apart) (append_assoc old.current old.staged (half_files old.half)) has.apart in
+    let fewer : AllPairs Apart (old.current ++ (filter test old.staged ++ half_files old.half)) = pairs_fewer Apart test old.current old.staged (half_files old.half) all in
+    let joined : AllPairs Apart (old.current ++ filter test old.staged ++ half_files old.half) = subst (AllPairs Apart) (sym (append_assoc old.current (filter test old.staged) (half_files old.half))) fewer in
+    let kept : All (IsWhole c) (old.current ++ filter test old.staged) = All-append (IsWhole c) old.current (filter test old.staged) (All-front (IsWhole c) old.current old.staged has.whole) (All-filter test (IsWhole c) old.staged (All-back (IsWhole c) old.current old.staged has.whole)) in
+    record {
+      whole = subst (All (IsWhole c)) (sym whole) kept;
+      begun = elim half [
+        | inl same ↦ subst (λ (h : Option Half). IfSome h (IsBegun c)) (sym same) has.begun
+        | inr none ↦ subst (λ (h : Option Half). IfSome h (IsBegun c)) (sym none) tt
+      ];
+      apart = elim half [
+        | inl same ↦ subst (AllPairs Apart) (sym (ap (λ (l : List Placed). l ++ half_files new.half) whole ∙ ap (λ (h : Option Half). old.current ++ filter test old.staged ++ half_files h) same)) joined
+        | inr none ↦ subst (AllPairs Apart) (sym (ap (λ (l : List Placed). l ++ half_files new.half) whole ∙ ap (λ (h : Option Half). old.current ++ filter test old.staged ++ half_files h) none ∙ append-nil (old.current ++ filter test old.staged))) (pairs_front Apart (old.current ++ filter test old.staged) (half_files old.half) joined)
+      ];
+    }
+
+-- the half staged file is given up
+pub dropped_staged : (old new : Store) (c : List ℕ) → new.current ≡ old.current → new.staged ≡ old.staged → new.half ≡ None → HasStaged old c → HasStaged new c
+dropped_staged old new c current staged half has =
+    let whole : whole_files new ≡ whole_files old = ap (λ (l : List Placed). l ++ new.staged) current ∙ ap (λ (l : List Placed). old.current ++ l) staged in
+    let Apart : Placed → Placed → Type 0 = λ p q. IsClear q.place q.file.length (segment_of p) in
+    let taken : taken_files new ≡ whole_files old = ap (λ (h : Option Half). whole_files new ++ half_files h) half ∙ append-nil (whole_files new) ∙ whole in
+    record {
+      whole = subst (All (IsWhole c)) (sym whole) has.whole;
+      begun = subst (λ (h : Option Half). IfSome h (IsBegun c)) (sym half) tt;
+      apart = subst (AllPairs Apart) (sym taken) (pairs_front Apart (whole_files old) (half_files old.half) has.apart);
+    }
+
+-- the half staged file is sealed
+pub sealed_staged : (old new : Store) (c : List ℕ) (half : Half) → old.half ≡ Some half → new.current ≡ old.current → new.staged ≡ old.staged ++ half.placed ∷ [] → new.half ≡ None → half.count ≡ half.placed.file.length → ((bytes : List ℕ) → Holds half.hasher bytes → md5 bytes ≡ half.placed.file.md5) → HasStaged old c → HasStaged new c
+sealed_staged old new c half was current staged idle count digest has =
+    let p : Placed = half.placed in
+    let whole : whole_files new ≡ whole_files old ++ p ∷ [] = ap (λ (l : List Placed). l ++ new.staged) current ∙ ap (λ (l : List Placed). old.current ++ l) staged ∙ sym (append_assoc old.current old.staged (p ∷ [])) in
+    let Apart : Placed → Placed → Type 0 = λ p q. IsClear q.place q.file.length (segment_of p) in
+    let before : taken_files old ≡ whole_files old ++ p ∷ [] = ap (λ (h : Option Half). whole_files old ++ half_files h) was in
+    let taken : taken_files new ≡ whole_files old ++ p ∷ [] = ap (λ (h : Option Half). whole_files new ++ half_files h) idle ∙ append-nil (whole_files new) ∙ whole in
+    let begun : Holds half.hasher (range c p.place half.count) = subst (λ (h : Option Half). IfSome h (IsBegun c)) was has.begun in
+    let bytes : range c p.place p.file.length ++ [] ≡ range c p.place half.count = append-nil (range c p.place p.file.length) ∙ ap (λ (n : ℕ). range c p.place n) (sym count) in
+    record {
+      whole = subst (All (IsWhole c)) (sym whole) (All-push (IsWhole c) (whole_files old) p has.whole (ap md5 bytes ∙ digest (range c p.place half.count) begun));
+      begun = subst (λ (h : Option Half). IfSome h (IsBegun c)) (sym idle) tt;
+      apart = subst (AllPairs Apart) (sym taken) (subst (AllPairs Apart) before has.apart);
+    }
+
+-- the file that comes last is clear of the others
+pub last_clear : (files : List Placed) (p : Placed) → AreApart (files ++ p ∷ []) → All (λ q. IsClear p.place p.file.length (segment_of q)) files
+last_clear files p apart k d lt =
+    let all : List Placed = files ++ p ∷ [] in
+    let pair = apart k (length files) d lt (omega (arith, length_push files p)) in
+    let first : get_or all k d ≡ get_or files k d = get_or_append_left files (p ∷ []) d k lt in
+    let second : get_or all (length files) d ≡ p = get_or_push files p d (length files) refl in
+    subst (λ (q : Placed). IsClear p.place p.file.length (segment_of q)) first (subst (λ (q : Placed). IsClear q.place q.file.length (segment_of (get_or all k d))) second pair)
+
+-- a part of a range that is clear
+pub part_clear : (place n p l : ℕ) (s : Segment) → place ≤ p → p + l ≤ place + n → IsClear place n s → IsClear p l s
+part_clear place n p l s low high (inl below) = inl (omega (arith, below, low))
+part_clear place n p l s low high (inr above) = inr (omega (arith, above, high))
+
+-- the bytes of the half staged file that come next are clear of the files that are whole
+pub half_clear : (s : Store) (c : List ℕ) (half : Half) (n : ℕ) → s.half ≡ Some half → half.count + n ≤ half.placed.file.length → HasStaged s c → All (λ q. IsClear (half.placed.place + half.count) n (segment_of q)) (whole_files s)
+half_clear s c half n is fits has k d lt =
+    let all : AreApart (whole_files s ++ half.placed ∷ []) = subst (λ (h : Option Half). AreApart (whole_files s ++ half_files h)) is has.apart in
+    part_clear half.placed.place half.placed.file.length (half.placed.place + half.count) n (segment_of (get_or (whole_files s) k d)) (omega arith) (omega (arith, fits)) (last_clear (whole_files s) half.placed all k d lt)
+
+-- and so of the files of the contents
+pub contents_clear : (s : Store) (p : Contents) (place n : ℕ) → s.current ≡ map placed_of p.files → IsLawful p → All (λ q. IsClear place n (segment_of q)) (whole_files s) → AreClear place n p.files
+contents_clear s p place n files lawful clear =
+    let current : All (λ q. IsClear place n (segment_of q)) (map placed_of p.files) = subst (λ (l : List Placed). All (λ q. IsClear place n (segment_of q)) l) files (All-front (λ q. IsClear place n (segment_of q)) s.current s.staged clear) in
+    clear_extents place n p.files (extents_of p lawful) (λ k d lt. subst (λ (q : Placed). IsClear place n (segment_of q)) (get_or-map placed_of p.files k d (placed_of d) lt) (current k (placed_of d) (omega (arith, lt, length-map p.files placed_of))))
+
+-- at every moment of a write that is clear of the files, each image stands for the contents
+pub staged_moments : (v w : View) (p : Contents) (place n : ℕ) → DATA ≤ place → place + n ≤ DATA + p.room → AreClear place n p.files → Settled v p → Elapses v w → Follows (Torn place n) v w → LeavesOnly (StandsFor p) v w
+staged_moments v w p place n low high clear settled time follows =
+    one_call v w (StandsFor p) settled.each time (λ c now. let was = follows c now in staged p was.0 c place n low high clear was.2 (settled.each was.0 was.1))
+
+-- what the store knows of the slots
+pub knows_kept : (s t : Store) (p : Contents) (c d : List ℕ) → KeepsSnapshot s t → slot_of Zero d ≡ slot_of Zero c → slot_of One d ≡ slot_of One c → Knows s p c → Knows t p d
+knows_kept s t p c d keeps first second knows =
+    let here : (x : Slot) → slot_of x d ≡ slot_of x c = λ x. at x in
+    let spare : slot_of t.spare d ≡ slot_of s.spare c = ap (λ (x : Slot). slot_of x d) keeps.spare ∙ here s.spare in
+    let current : slot_of (opposite t.spare) d ≡ slot_of (opposite s.spare) c = ap (λ (x : Slot). slot_of (opposite x) d) keeps.spare ∙ here (opposite s.spare) in
+    record {
+      display = keeps.display ∙ knows.display;
+      epoch = keeps.epoch ∙ knows.epoch;
+      room = keeps.room ∙ knows.room;
+      number = keeps.number ∙ knows.number;
+      text = keeps.text ∙ knows.text;
+      files = keeps.current ∙ knows.files;
+      slot = subst (λ (a : List ℕ). MatchOption p.text (Unit {0}) (λ text. IsCurrent p.room p.number text p.files a (slot_of t.spare d))) (sym current) (subst (λ (b : List ℕ). MatchOption p.text (Unit {0}) (λ text. IsCurrent p.room p.number text p.files (slot_of (opposite s.spare) c) b)) (sym spare) knows.slot);
+      gate = (
+        λ yes. subst IsOpen (sym spare) (knows.gate.0 (sym keeps.spare_open ∙ yes)),
+        λ open_now. keeps.spare_open ∙ knows.gate.1 (subst IsOpen spare open_now),
+      );
+    }
+  where
+    at : (x : Slot) → slot_of x d ≡ slot_of x c
+    at Zero = first
+    at One = second
+
+-- the bytes of a file where nothing of it is written
+pub whole_kept : (place n : ℕ) (c d : List ℕ) (q : Placed) → Torn place n c d → IsClear place n (segment_of q) → IsWhole c q → IsWhole d q
+whole_kept place n c d q torn clear whole = ap (λ (l : List ℕ). md5 (l ++ [])) (range_kept place n q.place q.file.length c d torn clear) ∙ whole
+
+range_parts : (c : List ℕ) (p k n : ℕ) → range c p (k + n) ≡ range c p k ++ range c (p + k) n
+unfolding range
+range_parts c p k n = take-add k n (drop p c) ∙ ap (λ (l : List ℕ). take k (drop p c) ++ take n l) (drop-drop k p c)
+
+-- the bytes that came before, and those that are written behind them
+pub bytes_behind : (c : List ℕ) (p k : ℕ) (bs : List ℕ) → p + k + length bs ≤ length c → range (put c (p + k) bs) p (k + length bs) ≡ range c p k ++ bs
+bytes_behind c p k bs fits =
+    let d : List ℕ = put c (p + k) bs in
+    let torn : Torn (p + k) (length bs) c d = put_is_torn c (p + k) bs fits in
+    range_parts d p k (length bs) ∙ ap (λ (l : List ℕ). l ++ range d (p + k) (length bs)) (range_kept (p + k) (length bs) p k c d torn (inl (omega arith))) ∙ ap (λ (l : List ℕ). range c p k ++ l) (range_put c (p + k) bs fits)
+
+-- after the write of the next bytes the store is as ready as before
+pub ready_after : (v w : View) (s t : Store) (p : Contents) (half : Half) (bs : List ℕ) → s.half ≡ Some half → IsPlaced s.room half.placed → half.count + length bs ≤ half.placed.file.length → v.size ≡ DATA + s.room
+    → Passed (Written (half.placed.place + half.count) bs) (Torn (half.placed.place + half.count) (length bs)) v w → Within DATA s.room v w → KeepsSnapshot s t → t.staged ≡ s.staged → ((placed : Placed) (before : List ℕ) → IsHalf s placed before → IsHalf t placed (before ++ bs)) → IsReady v s p → IsReady w t p
+ready_after v w s t p half bs is placed fits size call within keeps sealed takes ready =
+    let told = ready.settled.told in
+    let c : List ℕ = v.bytes in
+    let place : ℕ = half.placed.place + half.count in
+    let long : length c ≡ DATA + s.room = v.sized told ∙ size in
+    let room : place + length bs ≤ length c = omega (arith, long, placed.inside.1, fits) in
+    let torn : Torn place (length bs) c w.bytes = subst (λ (d : List ℕ). Torn place (length bs) c d) (sym (call.bytes told)) (put_is_torn c place bs room) in
+    let clear = half_clear s c half (length bs) is fits ready.staged in
+    let lawful : IsLawful p = (settled_read v p ready.settled).lawful in
+    let moments = staged_moments v w p place (length bs) (omega (arith, placed.inside.0)) (omega (arith, placed.inside.1, fits, ready.knows.room)) (contents_clear s p place (length bs) ready.knows.files lawful clear) ready.settled call.time call.images in
+    let begun : Holds half.hasher (range c half.placed.place half.count) = subst (λ (h : Option Half). IfSome h (IsBegun c)) is ready.staged.begun in
+    let before : IsHalf s half.placed (range c half.placed.place half.count) = record { half = half; is = is; placed_is = refl; count = sym (length-range c half.placed.place half.count (omega (arith, room))); holds = begun } in
+    let after = takes half.placed (range c half.placed.place half.count) before in
+    let whole : whole_files t ≡ whole_files s = ap (λ (l : List Placed). l ++ t.staged) keeps.current ∙ ap (λ (l : List Placed). s.current ++ l) sealed in
+    let bytes : range w.bytes half.placed.place (half.count + length bs) ≡ range c half.placed.place half.count ++ bs = ap (λ (d : List ℕ). range d half.placed.place (half.count + length bs)) (call.bytes told) ∙ bytes_behind c half.placed.place half.count bs room in
+    let count : after.half.count ≡ half.count + length bs = after.count ∙ length-append (range c half.placed.place half.count) bs ∙ ap (λ (n : ℕ). n + length bs) (length-range c half.placed.place half.count (omega (arith, room))) in
+    record {
+      settled = settled_leaves v w p told moments call.told;
+      front = one_kept DATA s.room 0 JOURNAL v w told (inl (omega arith)) ready.front within;
+      knows = knows_kept s t p c w.bytes keeps (bytes_kept DATA s.room SLOT_ZERO SLOT_LEN v w told (inl (omega arith)) within) (bytes_kept DATA s.room SLOT_ONE SLOT_LEN v w told (inl (omega arith)) within) ready.knows;
+      staged = record {
+        whole = subst (All (IsWhole w.bytes)) (sym whole) (λ k d lt. whole_kept place (length bs) c w.bytes (get_or (whole_files s) k d) torn (clear k d lt) (ready.staged.whole k d lt));
+        begun = subst (λ (h : Option Half). IfSome h (IsBegun w.bytes)) (sym after.is) (subst (Holds after.half.hasher) (sym (ap (λ (q : Placed). range w.bytes q.place after.half.count) after.placed_is ∙ ap (λ (n : ℕ). range w.bytes half.placed.place n) count ∙ bytes)) after.holds);
+        apart = subst AreApart (sym (ap (λ (l : List Placed). l ++ half_files t.half) whole ∙ ap (λ (h : Option Half). whole_files s ++ half_files h) after.is ∙ ap (λ (q : Placed). whole_files s ++ q ∷ []) after.placed_is ∙ sym (ap (λ (h : Option Half). whole_files s ++ half_files h) is))) ready.staged.apart;
+      };
+    }
+
+-- a half staged file
+pub some_half : (h : Option Half) (P : Half → Type 0) → IsSomeAnd h P → (half : Half) × (h ≡ Some half) × P half
+some_half None P none = absurd none
+some_half (Some half) P holds = (half, refl, holds)
+
+-- a write in the place of the half staged file is inside the data area, whether it passed or failed
+pub staged_within : (v w : View) (s : Store) (half : Half) (place n : ℕ) → place ≡ half.placed.place + half.count → IsPlaced s.room half.placed → half.count + n ≤ half.placed.file.length → Within place n v w → Within DATA s.room v w
+staged_within v w s half place n at placed fits within = within_wider place n DATA s.room v w (omega (arith, at, placed.inside.0)) (omega (arith, at, placed.inside.1, fits)) within
+
+pub staged_leaves : (v w : View) (s : Store) (p : Contents) (half : Half) (place n : ℕ) → place ≡ half.placed.place + half.count → s.half ≡ Some half → IsPlaced s.room half.placed → half.count + n ≤ half.placed.file.length → Elapses v w → Follows (Torn place n) v w → IsReady v s p → LeavesOnly (StandsFor p) v w
+staged_leaves v w s p half place n at is placed fits time follows ready =
+    let clear : All (λ q. IsClear place n (segment_of q)) (whole_files s) = subst (λ (k : ℕ). All (λ q. IsClear k n (segment_of q)) (whole_files s)) (sym at) (half_clear s v.bytes half n is fits ready.staged) in
+    let lawful : IsLawful p = (settled_read v p ready.settled).lawful in
+    staged_moments v w p place n (omega (arith, at, placed.inside.0)) (omega (arith, at, placed.inside.1, fits, ready.knows.room)) (contents_clear s p place n ready.knows.files lawful clear) ready.settled time follows
+
+-- the first of two lists has it, or the second one does
+pub some_found : {X : Type 0} (test : X → Bool) (xs ys : List X) (x : X) → Some x ≡ find test xs → Some x ≡ find test (xs ++ ys)
+some_found {X} test xs ys x is = sym (find-append test xs ys ∙ ap (λ (o : Option X). option_or o (find test ys)) (sym is))
+
+pub none_found : {X : Type 0} (test : X → Bool) (xs ys : List X) → None ≡ find test xs → find test ys ≡ find test (xs ++ ys)
+none_found {X} test xs ys is = sym (find-append test xs ys ∙ ap (λ (o : Option X). option_or o (find test ys)) (sym is))

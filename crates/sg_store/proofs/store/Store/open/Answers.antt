@@ -1,0 +1,52 @@
+use Rattle.std.proofs.Common.{◌≡◌, ℕ, List, Option, is_some, ◌∙◌, sym, ap}
+use Rattle.sg_disk.proofs.Moments.{quiet_only, weaker, unchanged_joined}
+use Rattle.sg_disk.proofs.Standing.{between_read}
+use Rattle.sg_disk.specs.StandsFor.{StandsForOne, Two}
+use Rattle.sg_store.specs.Slots.{head_at, files_at, spare_at, opposite, head_number, head_text}
+use Rattle.sg_store.specs.declared.slots.Head.{Head}
+use Rattle.sg_store.specs.declared.slots.Slot.{Slot}
+use Rattle.sg_store.specs.declared.slots.Slot.TheVariants.{Zero, One}
+use Rattle.sg_store.proofs.OpenLemmas.{Found, in_opposite, in_spare, files_opposite, opened}
+use Rattle.sg_store.proofs.store.Store.open.Goals as goal
+
+pub returns-clause-ready : goal.returns-clause-ready
+returns-clause-ready g c p told stands =
+    let v = g.D.Disk.view c.args.disk.now in
+    let m = g.D.Disk.view c.read_header.new.disk in
+    let w = g.D.Disk.view c.read_slots.new.disk in
+    let s = c.assemble.result in
+    let h = c.in_ok-header.ensures in
+    let r = c.in_ok-slots.ensures in
+    let here = h.ran.told told in
+    let same : m.bytes ≡ v.bytes = h.bytes told in
+    let zero : c.in_ok-slots.slots.zero ≡ head_at Zero v.bytes = r.zero here ∙ ap (λ (b : List ℕ). head_at Zero b) same in
+    let one : c.in_ok-slots.slots.one ≡ head_at One v.bytes = r.one here ∙ ap (λ (b : List ℕ). head_at One b) same in
+    let zero_files = r.zero_files here ∙ ap (λ (b : List ℕ). files_at Zero b) same in
+    let one_files = r.one_files here ∙ ap (λ (b : List ℕ). files_at One b) same in
+    let spare : s.spare ≡ c.in_ok-slots.slots.spare = c.assemble.ensures.spare in
+    let chosen = c.in_ok-slots.slots.spare in
+    let found : Found s v.bytes = record {
+      display = c.assemble.ensures.display ∙ h.display told;
+      epoch = c.assemble.ensures.epoch ∙ h.epoch told;
+      room = c.assemble.ensures.room ∙ h.room told;
+      spare = spare ∙ r.spare ∙ ap (λ (x : Option Head). spare_at x c.in_ok-slots.slots.one) zero ∙ ap (λ (x : Option Head). spare_at (head_at Zero v.bytes) x) one;
+      gate = c.assemble.ensures.gate ∙ ap is_some (in_spare chosen v.bytes c.in_ok-slots.slots.zero c.in_ok-slots.slots.one zero one) ∙ ap (λ (x : Slot). is_some (head_at x v.bytes)) (sym spare);
+      number = c.assemble.ensures.number ∙ ap head_number (in_opposite chosen v.bytes c.in_ok-slots.slots.zero c.in_ok-slots.slots.one zero one) ∙ ap (λ (x : Slot). head_number (head_at (opposite x) v.bytes)) (sym spare);
+      text = c.assemble.ensures.text ∙ ap head_text (in_opposite chosen v.bytes c.in_ok-slots.slots.zero c.in_ok-slots.slots.one zero one) ∙ ap (λ (x : Slot). head_text (head_at (opposite x) v.bytes)) (sym spare);
+      files = c.assemble.ensures.files ∙ files_opposite chosen v.bytes c.read_slots.new.rooms.zero c.read_slots.new.rooms.one zero_files one_files ∙ ap (λ (x : Slot). files_at (opposite x) v.bytes) (sym spare);
+      staged = c.assemble.ensures.staged;
+      half = c.assemble.ensures.half;
+    } in
+    opened v w s p (r.quiet.ran.told here) (quiet_only 0 m w v.bytes r.quiet (h.stable told)) (r.quiet.bytes here ∙ same) found stands
+
+pub returns-clause-settled : goal.returns-clause-settled
+returns-clause-settled g c p q between =
+    let one = between_read (g.D.Disk.view c.args.disk.now) (Two p q) between in
+    (one.0, one.1, one.2, returns-clause-ready g c one.0 between.told one.2)
+
+pub returns-clause-between : goal.returns-clause-between
+returns-clause-between g c p q between =
+    let v = g.D.Disk.view c.args.disk.now in
+    let m = g.D.Disk.view c.read_header.new.disk in
+    let w = g.D.Disk.view c.read_slots.new.disk in
+    weaker v w v.images (StandsForOne (Two p q)) between.each (unchanged_joined v m w c.in_ok-header.ensures.any_moment c.in_ok-slots.ensures.any_moment)

@@ -1,0 +1,4 @@
+pub mod Bytes
+pub mod Slots
+pub mod Damage
+pub mod Ready

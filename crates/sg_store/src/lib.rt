@@ -1,0 +1,37 @@
+//! The store of a player: one snapshot (a manifest with all its files) on a disk, the next files staged beside it, and the
+//! switch from the one to the other.
+//!
+//! A caller sees a `Store` by what it knows of a disk: `IsReady v store p` (`specs/Ready.antt`) says that the disk with the
+//! view v is settled with the contents p, and that the store knows them and what is staged. Opening gives it for what a read
+//! gives, and each call takes it from contents to contents. A call that writes says by `Within` where it writes, so that
+//! what another crate knows of the rest of the disk stays. Each call over a disk also says what a crash at any moment of it
+//! leaves (`any_moment`), when it fails (`broke`), and how many calls at least it makes where it passes (`ran`).
+//!
+//! `specs/Bytes.antt` has the bytes of a header, a slot and a table; `specs/Slots.antt` the two slots, of which one is
+//! current and the other spare; `specs/Damage.antt` what an opening refuses, check by check. Where a file goes is the part of
+//! `sg_placing`. All memory is taken by `Store::open`.
+#![tactic(auto)]
+
+mod choice;
+mod entries;
+mod faults;
+mod formats;
+mod fresh;
+mod header;
+mod opening;
+mod overlaps;
+mod reading;
+mod slot_reads;
+mod slot_writes;
+mod slots;
+mod staging;
+mod store;
+mod switching;
+
+pub use faults::{DigestDiffers, NoSpace, OpenFault, SwitchFault};
+pub use formats::Format;
+pub use fresh::format;
+pub use store::Store;
+
+#[cfg(test)]
+mod tests;

@@ -1,0 +1,197 @@
+// The opening of a store.
+ghost use Rattle.std.specs.Prelude.{◌≡◌, ◌≢◌, ◌⊎◌, ℕ, ◌+◌, ◌<◌, ◌≤◌, [], length, None, Some, IfOk, OnOk, OnErr, IsErrOf, is_some, All, vec_capacity, slice_index};
+ghost use Rattle.std.specs.Option.{ForSome};
+ghost use Rattle.sg_disk.specs.View.{Only};
+ghost use Rattle.sg_disk.specs.Runs.{LeavesOnly, Ran, Broke, Quiet};
+ghost use Rattle.sg_disk.specs.Contents.{Contents};
+ghost use Rattle.sg_disk.specs.StandsFor.{StandsFor, StandsForOne, Two, Between};
+ghost use Rattle.sg_placing.specs.Placing.{IsPlaced};
+ghost use Rattle.sg_store.specs.Bytes.{u32_at, u64_at};
+ghost use Rattle.sg_store.specs.Slots.{slot_place, head_at, files_at, spare_at, in_slot, head_number, head_text};
+ghost use Rattle.sg_store.specs.Damage.{slot_damage, twin_damage, overlap_damage, slots_damage, damage_of};
+ghost use Rattle.sg_store.specs.Ready.{IsReady};
+
+use crate::faults::OpenFault;
+use crate::formats::Format;
+use crate::header::read_header;
+use crate::overlaps::check_apart;
+use crate::slot_reads::read_slot;
+use crate::slots::{Head, Slot};
+use crate::store::Store;
+use sg_disk::{DATA, Disk, MAX_FILES, MAX_ROOM, MAX_TEXT, OPEN_CALLS, SLOT_ONE, TABLE};
+use sg_placing::Shelf;
+use std::alloc::{AllocError, Global};
+
+// All the memory that a store takes.
+#[derive(Drop)]
+struct Rooms {
+    zero: Shelf,
+    one: Shelf,
+    staged: Shelf,
+    table: Vec<u8>,
+}
+
+impl Rooms {
+    fn reserve(alloc: Global) -> Result<Rooms, AllocError>
+        ensures staged { IfOk result (λ r. r.staged ≡ []) }
+        ensures table { IfOk result (λ r. 16384 ≤ vec_capacity r.table) }
+    {
+        Ok(Rooms {
+            zero: Shelf::reserve(alloc)?,
+            one: Shelf::reserve(alloc)?,
+            staged: Shelf::reserve(alloc)?,
+            table: Vec::with_capacity(alloc, 16_384)?,
+        })
+    }
+}
+
+// What both slots say.
+#[derive(Clone, Copy)]
+struct Slots {
+    zero: Option<Head>,
+    one: Option<Head>,
+    // The one that a switch writes.
+    spare: Slot,
+}
+
+// Chooses the slot that a switch writes: one whose gate is closed, or the one of the lower number.
+fn choose(zero: &Option<Head>, one: &Option<Head>) -> Result<Slot, OpenFault>
+    ensures damaged { (place found : ℕ) → IsErrOf result (OpenFault.Damaged place found) → twin_damage zero.now one.now ≡ Some (record { place = place; found = found }) }
+    ensures only { OnErr result ((place : ℕ) × (found : ℕ) × IsErrOf result (OpenFault.Damaged place found)) }
+    ensures sound { OnOk result (twin_damage zero.now one.now ≡ None) }
+    ensures spare { IfOk result (λ s. s ≡ spare_at zero.now one.now) }
+{
+    match (zero, one) {
+        (None, _) => Ok(Slot::Zero),
+        (Some(_), None) => Ok(Slot::One),
+        (Some(zero), Some(one)) => {
+            if zero.number == one.number {
+                return Err(OpenFault::Damaged {
+                    place: SLOT_ONE + 4,
+                    found: u64::from(one.number),
+                });
+            }
+            if zero.number < one.number {
+                Ok(Slot::Zero)
+            } else {
+                Ok(Slot::One)
+            }
+        }
+    }
+}
+
+// Reads both slots, and looks at each check that an opening makes of them.
+fn read_slots<D: Disk>(disk: &mut D, room: u64, rooms: &mut Rooms) -> Result<Slots, OpenFault>
+    requires disk { DATA ≤ (D.view disk.old).size }
+    requires room { room ≤ MAX_ROOM }
+    requires table { 16384 ≤ vec_capacity rooms.old.table }
+    ensures damaged { (place found : ℕ) → IsErrOf result (OpenFault.Damaged place found) → (D.view disk.old).told → slots_damage room (D.view disk.old).bytes ≡ Some (record { place = place; found = found }) }
+    ensures broke { IsErrOf result OpenFault.Disk → Broke (D.view disk.old) (D.view disk.new) }
+    ensures formatted { IsErrOf result OpenFault.Unformatted → ⊥ }
+    ensures memory { IsErrOf result OpenFault.Memory → ⊥ }
+    ensures sound { OnOk result ((D.view disk.old).told → slots_damage room (D.view disk.old).bytes ≡ None) }
+    ensures zero { IfOk result (λ s. (D.view disk.old).told → s.zero ≡ head_at Slot.Zero (D.view disk.old).bytes) }
+    ensures one { IfOk result (λ s. (D.view disk.old).told → s.one ≡ head_at Slot.One (D.view disk.old).bytes) }
+    ensures spare { IfOk result (λ s. s.spare ≡ spare_at s.zero s.one) }
+    ensures zero_text { IfOk result (λ s. ForSome s.zero (λ h. h.text ≤ MAX_TEXT)) }
+    ensures one_text { IfOk result (λ s. ForSome s.one (λ h. h.text ≤ MAX_TEXT)) }
+    ensures zero_files { OnOk result ((D.view disk.old).told → rooms.new.zero ≡ files_at Slot.Zero (D.view disk.old).bytes) }
+    ensures one_files { OnOk result ((D.view disk.old).told → rooms.new.one ≡ files_at Slot.One (D.view disk.old).bytes) }
+    ensures zero_placed { OnOk result (All (IsPlaced room) rooms.new.zero) }
+    ensures one_placed { OnOk result (All (IsPlaced room) rooms.new.one) }
+    ensures staged { rooms.new.staged ≡ rooms.old.staged }
+    ensures table { 16384 ≤ vec_capacity rooms.new.table }
+    ensures quiet { OnOk result (Quiet 0 (D.view disk.old) (D.view disk.new)) }
+    ensures any_moment { LeavesOnly (D.view disk.old).images (D.view disk.old) (D.view disk.new) }
+    ensures size { (D.view disk.new).size ≡ (D.view disk.old).size }
+{
+    let zero = read_slot(disk, Slot::Zero, room, &mut rooms.table, &mut rooms.zero)?;
+    let one = read_slot(disk, Slot::One, room, &mut rooms.table, &mut rooms.one)?;
+    let spare = choose(&zero, &one)?;
+    check_apart(Slot::Zero, rooms.zero.as_slice())?;
+    check_apart(Slot::One, rooms.one.as_slice())?;
+    Ok(Slots { zero, one, spare })
+}
+
+// Puts a store together from what was read.
+fn assemble(header: Format, slots: Slots, rooms: Rooms) -> Store
+    requires room { header.room ≤ MAX_ROOM }
+    requires zero_text { ForSome slots.zero (λ h. h.text ≤ MAX_TEXT) }
+    requires one_text { ForSome slots.one (λ h. h.text ≤ MAX_TEXT) }
+    requires zero_files { All (IsPlaced header.room) rooms.zero }
+    requires one_files { All (IsPlaced header.room) rooms.one }
+    requires staged { rooms.staged ≡ [] }
+    requires table { 16384 ≤ vec_capacity rooms.table }
+    ensures display { result.display ≡ header.display }
+    ensures epoch { result.epoch ≡ header.epoch }
+    ensures room { result.room ≡ header.room }
+    ensures spare { result.spare ≡ slots.spare }
+    ensures gate { result.spare_open ≡ is_some (in_slot slots.spare slots.zero slots.one) }
+    ensures number { result.number ≡ head_number (in_slot slots.spare slots.one slots.zero) }
+    ensures text { result.text ≡ head_text (in_slot slots.spare slots.one slots.zero) }
+    ensures files { result.current ≡ in_slot slots.spare rooms.one rooms.zero }
+    ensures staged { result.staged ≡ [] }
+    ensures half { result.half ≡ None }
+{
+    let Rooms {
+        zero,
+        one,
+        staged,
+        table,
+    } = rooms;
+    let (head, other, current, next) = match slots.spare {
+        Slot::Zero => (slots.one, slots.zero, one, zero),
+        Slot::One => (slots.zero, slots.one, zero, one),
+    };
+    let (number, text) = match head {
+        Some(head) => (head.number, head.text),
+        None => (0, 0),
+    };
+    Store {
+        display: header.display,
+        epoch: header.epoch,
+        room: header.room,
+        number,
+        text,
+        spare: slots.spare,
+        spare_open: other.is_some(),
+        current,
+        staged,
+        half: None,
+        next,
+        table,
+    }
+}
+
+impl Store {
+    /// Opens the store on a disk: its current snapshot is that of the open slot with the greater number.
+    ///
+    /// It begins with a sync and then only reads, so a crash at any moment of it leaves what a crash before it could leave.
+    /// It takes all the memory of the store. Where a disk has several faults, the answer is the first one in this order: the
+    /// header; slot 0 and then slot 1, each by its fields and its entries; equal numbers; overlaps.
+    pub fn open<D: Disk>(alloc: Global, disk: &mut D) -> Result<Store, OpenFault>
+        // The store is the one that a read gives, and each crash now leaves it.
+        ensures ready { IfOk result (λ s. (p : Contents) → (D.view disk.old).told → StandsFor p (D.view disk.old).bytes → IsReady (D.view disk.new) s p) }
+        ensures settled { IfOk result (λ s. (p q : Contents) → Between (D.view disk.old) (Two p q) → (r : Contents) × Two p q r × StandsFor r (D.view disk.old).bytes × IsReady (D.view disk.new) s r) }
+        ensures idle { IfOk result (λ s. s.half ≡ None) }
+        ensures sealed { IfOk result (λ s. s.staged ≡ []) }
+        ensures stable { OnOk result ((D.view disk.old).told → Only (D.view disk.new).bytes (D.view disk.new)) }
+        ensures bytes { OnOk result ((D.view disk.old).told → (D.view disk.new).bytes ≡ (D.view disk.old).bytes) }
+        ensures size { IfOk result (λ s. (D.view disk.new).size ≡ DATA + s.room) }
+        ensures ran { OnOk result (Ran OPEN_CALLS (D.view disk.old) (D.view disk.new)) }
+        ensures any_moment { LeavesOnly (D.view disk.old).images (D.view disk.old) (D.view disk.new) }
+        ensures between { (p q : Contents) → Between (D.view disk.old) (Two p q) → LeavesOnly (StandsForOne (Two p q)) (D.view disk.old) (D.view disk.new) }
+
+        // Each refusal comes exactly by its cause.
+        ensures unformatted { IsErrOf result OpenFault.Unformatted → ((D.view disk.new).size < DATA) ⊎ ((D.view disk.old).told → slice_index (D.view disk.old).bytes 0 ≢ 1) }
+        ensures formatted { OnOk result ((D.view disk.old).told → slice_index (D.view disk.old).bytes 0 ≡ 1) }
+        ensures damaged { (place found : ℕ) → IsErrOf result (OpenFault.Damaged place found) → (D.view disk.old).told → damage_of (D.view disk.new).size (D.view disk.old).bytes ≡ Some (record { place = place; found = found }) }
+        ensures sound { OnOk result ((D.view disk.old).told → damage_of (D.view disk.new).size (D.view disk.old).bytes ≡ None) }
+        ensures broke { IsErrOf result OpenFault.Disk → Broke (D.view disk.old) (D.view disk.new) }
+    {
+        let mut rooms = Rooms::reserve(alloc)?;
+        let header = read_header(disk)?;
+        let slots = read_slots(disk, header.room, &mut rooms)?;
+        Ok(assemble(header, slots, rooms))
+    }
+}

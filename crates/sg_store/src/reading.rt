@@ -1,0 +1,71 @@
+// What the snapshot reads back as. These calls change nothing, on the disk or in the store.
+ghost use Rattle.std.specs.Prelude.{◌≡◌, ℕ, ◌+◌, ◌≤◌, ◌==◌, List, length, find, Some, OnOk, OnErr, IsSomeAnd, Contains};
+ghost use Rattle.sg_disk.specs.View.{range};
+ghost use Rattle.sg_disk.specs.Runs.{LeavesOnly, Broke, Quiet};
+ghost use Rattle.sg_disk.specs.Contents.{StoredFile, Contents};
+ghost use Rattle.sg_store.specs.Ready.{Knows, IsReady};
+
+use crate::store::Store;
+use sg_base::MediaId;
+use sg_disk::{DATA, Disk, DiskFailed, TEXT};
+use sg_placing::find_media;
+
+impl Store {
+    /// Where the manifest of the snapshot begins on the disk.
+    pub fn manifest_place(&self) -> u64
+        requires { 1 ≤ self.now.number }
+        ensures text { (p : Contents) (c text : List ℕ) → Knows self.now p c → p.text ≡ Some text → range c result (length text) ≡ text }
+        ensures inside { result + 1048576 ≤ DATA }
+    {
+        self.spare.opposite().place() + TEXT
+    }
+
+    /// Reads the manifest of the snapshot into a buffer of its length, in one call.
+    pub fn read_manifest<D: Disk>(&self, disk: &mut D, into: &mut [u8]) -> Result<(), DiskFailed>
+        requires snapshot { 1 ≤ self.now.number }
+        requires buffer { length into.old ≡ self.now.text }
+        requires disk { (D.view disk.old).size ≡ DATA + self.now.room }
+        ensures text { OnOk result ((p : Contents) (text : List ℕ) → IsReady (D.view disk.old) self.now p → p.text ≡ Some text → into.new ≡ text) }
+        ensures ready { OnOk result ((p : Contents) → IsReady (D.view disk.old) self.now p → IsReady (D.view disk.new) self.now p) }
+        ensures quiet { OnOk result (Quiet 1 (D.view disk.old) (D.view disk.new)) }
+        ensures any_moment { LeavesOnly (D.view disk.old).images (D.view disk.old) (D.view disk.new) }
+        ensures size { (D.view disk.new).size ≡ (D.view disk.old).size }
+        ensures broke { OnErr result (Broke (D.view disk.old) (D.view disk.new)) }
+    {
+        disk.read(self.manifest_place(), into)?;
+        Ok(())
+    }
+
+    /// Reads bytes of a file of the snapshot, from an offset on, in one call.
+    pub fn read_file<D: Disk>(
+        &self,
+        disk: &mut D,
+        media: MediaId,
+        offset: u32,
+        into: &mut [u8],
+    ) -> Result<(), DiskFailed>
+        requires file { IsSomeAnd (find (λ q. q.file.media.0 == media.0) self.now.current) (λ q. offset + length into.old ≤ q.file.length) }
+        requires disk { (D.view disk.old).size ≡ DATA + self.now.room }
+        ensures bytes { OnOk result ((p : Contents) (f : StoredFile) → IsReady (D.view disk.old) self.now p → Contains p.files f → f.listed.media.0 ≡ media.0 → into.new ≡ range f.bytes offset (length into.old)) }
+        ensures ready { OnOk result ((p : Contents) → IsReady (D.view disk.old) self.now p → IsReady (D.view disk.new) self.now p) }
+        ensures quiet { OnOk result (Quiet 1 (D.view disk.old) (D.view disk.new)) }
+        ensures any_moment { LeavesOnly (D.view disk.old).images (D.view disk.old) (D.view disk.new) }
+        ensures size { (D.view disk.new).size ≡ (D.view disk.old).size }
+        ensures broke { OnErr result (Broke (D.view disk.old) (D.view disk.new)) }
+    {
+        let place = self.place_of(media);
+        disk.read(place + u64::from(offset), into)?;
+        Ok(())
+    }
+
+    // Where a file of the snapshot begins.
+    fn place_of(&self, media: MediaId) -> u64
+        requires { IsSomeAnd (find (λ q. q.file.media.0 == media.0) self.now.current) (λ q. 0 ≤ q.file.length) }
+        ensures { IsSomeAnd (find (λ q. q.file.media.0 == media.0) self.now.current) (λ q. result ≡ q.place) }
+    {
+        match find_media(self.current.as_slice(), media) {
+            Some(placed) => placed.place,
+            None => unreachable!(),
+        }
+    }
+}

@@ -1,0 +1,111 @@
+// The switch: the next snapshot becomes the current one by one byte.
+ghost use Rattle.std.specs.Prelude.{◌≡◌, ◌≢◌, ℕ, ◌+◌, ◌-◌, ◌<◌, ◌≤◌, ◌^◌, ◌==◌, [], length, map, None, OnOk, OnErr, IsErrOf, All, AllPairs, true, false, not};
+ghost use Rattle.sg_disk.specs.Runs.{LeavesOnly, Ran, Broke, Within};
+ghost use Rattle.sg_disk.specs.Contents.{Contents, switched};
+ghost use Rattle.sg_disk.specs.StandsFor.{StandsFor, Either, Two, Between, HasOneJournal};
+ghost use Rattle.sg_placing.specs.Placing.{IsPlaced};
+ghost use Rattle.sg_store.specs.Bytes.{table_bytes};
+ghost use Rattle.sg_store.specs.Slots.{opposite};
+ghost use Rattle.sg_store.specs.Ready.{whole_files, chosen, is_held, stored_files, KeepsSnapshot, IsReady};
+
+use crate::choice::choose_files;
+use crate::faults::SwitchFault;
+use crate::slot_writes::{fill_slot, fill_table, head_fields_of};
+use crate::store::Store;
+use sg_base::Listed;
+use sg_disk::{DATA, Disk, MAX_FILES, MAX_TEXT, SLOT_ZERO, SWITCH_CALLS, close_gate, write_synced};
+use std::mem;
+
+impl Store {
+    /// Makes a manifest and its files current. At any moment a crash leaves the snapshot before or the one after it, whole.
+    /// After `Ok` the switch number is one higher, and nothing is staged.
+    ///
+    /// It makes eight calls: the gate of the spare slot is closed (it is only read where it is closed already) and synced; the
+    /// slot is filled behind it and synced, and the staged files with it; then the gate is opened and synced.
+    pub fn switch<D: Disk>(
+        &mut self,
+        disk: &mut D,
+        manifest: &[u8],
+        files: &[Listed],
+    ) -> Result<(), SwitchFault>
+        requires few { length files.now ≤ MAX_FILES }
+        requires ascending { AllPairs (λ f g. f.media.0 < g.media.0) files.now }
+        requires held { All (λ f. is_held self.old f ≡ true) files.now }
+        requires some { 1 ≤ length manifest.now }
+        requires long { length manifest.now ≤ MAX_TEXT }
+        requires disk { (D.view disk.old).size ≡ DATA + self.old.room }
+        ensures any_moment { (p : Contents) → IsReady (D.view disk.old) self.old p → LeavesOnly (Either p (switched p manifest.now (stored_files self.old (D.view disk.old).bytes files.now))) (D.view disk.old) (D.view disk.new) }
+        ensures ready { OnOk result ((p : Contents) → IsReady (D.view disk.old) self.old p → IsReady (D.view disk.new) self.new (switched p manifest.now (stored_files self.old (D.view disk.old).bytes files.now))) }
+        ensures between { IsErrOf result SwitchFault.Disk → (p : Contents) → IsReady (D.view disk.old) self.old p → Between (D.view disk.new) (Two p (switched p manifest.now (stored_files self.old (D.view disk.old).bytes files.now))) }
+        ensures number { OnOk result (self.new.number ≡ self.old.number + 1) }
+        ensures idle { OnOk result (self.new.half ≡ None) }
+        ensures sealed { OnOk result (self.new.staged ≡ []) }
+        ensures room { self.new.room ≡ self.old.room }
+        ensures spent { IsErrOf result SwitchFault.Spent → self.old.number ≡ 4294967295 }
+        ensures spent_so { self.old.number ≡ 4294967295 → IsErrOf result SwitchFault.Spent }
+        ensures kept { IsErrOf result SwitchFault.Spent → self.new ≡ self.old }
+        ensures still { IsErrOf result SwitchFault.Spent → Ran 0 (D.view disk.old) (D.view disk.new) }
+        ensures untouched { IsErrOf result SwitchFault.Spent → LeavesOnly (D.view disk.old).images (D.view disk.old) (D.view disk.new) }
+        ensures broke { IsErrOf result SwitchFault.Disk → Broke (D.view disk.old) (D.view disk.new) }
+        ensures ran { OnOk result (Ran SWITCH_CALLS (D.view disk.old) (D.view disk.new)) }
+        ensures within { Within SLOT_ZERO 2138112 (D.view disk.old) (D.view disk.new) }
+        ensures journal { (D.view disk.old).told → HasOneJournal (D.view disk.old) → HasOneJournal (D.view disk.new) }
+        ensures size { (D.view disk.new).size ≡ (D.view disk.old).size }
+    {
+        if self.number == u32::MAX {
+            return Err(SwitchFault::Spent);
+        }
+        self.gather(files);
+        let number = self.number + 1;
+        let text = manifest.len() as u32;
+        let head = head_fields_of(number, text, files.len() as u32);
+        close_gate(disk, self.spare.place(), self.spare_open)?;
+        fill_slot(disk, self.spare, &head, self.table.as_slice(), manifest)?;
+        write_synced(disk, self.spare.place(), &[1])?;
+        self.take_over(number, text);
+        Ok(())
+    }
+
+    // Gathers the files of a switch, and the bytes of their table.
+    fn gather(&mut self, files: &[Listed])
+        requires few { length files.now ≤ MAX_FILES }
+        requires held { All (λ f. is_held self.old f ≡ true) files.now }
+        ensures next { self.new.next ≡ map (chosen (whole_files self.old)) files.now }
+        ensures table { self.new.table.items ≡ table_bytes (map (chosen (whole_files self.old)) files.now) }
+        ensures len { length self.new.table.items ≤ 16384 }
+        ensures snapshot { KeepsSnapshot self.old self.new }
+        ensures sealed { self.new.staged ≡ self.old.staged }
+    {
+        choose_files(
+            self.current.as_slice(),
+            self.staged.as_slice(),
+            files,
+            &mut self.next,
+        );
+        fill_table(&mut self.table, self.next.as_slice());
+    }
+
+    // Takes the gathered files as those of the snapshot.
+    fn take_over(&mut self, number: u32, text: u32)
+        requires placed { All (IsPlaced self.old.room) self.old.next }
+        requires text { text ≤ MAX_TEXT }
+        ensures display { self.new.display ≡ self.old.display }
+        ensures epoch { self.new.epoch ≡ self.old.epoch }
+        ensures room { self.new.room ≡ self.old.room }
+        ensures number { self.new.number ≡ number }
+        ensures text { self.new.text ≡ text }
+        ensures current { self.new.current ≡ self.old.next }
+        ensures staged { self.new.staged ≡ [] }
+        ensures half { self.new.half ≡ None }
+        ensures spare { self.new.spare ≡ opposite self.old.spare }
+        ensures gate { self.new.spare_open ≡ not (self.old.number == 0) }
+    {
+        mem::swap(&mut self.current, &mut self.next);
+        self.staged.clear();
+        self.half = None;
+        self.spare_open = self.number != 0;
+        self.spare = self.spare.opposite();
+        self.number = number;
+        self.text = text;
+    }
+}
