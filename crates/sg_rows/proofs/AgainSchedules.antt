@@ -1,6 +1,7 @@
 -- The JSON of a valid row of a schedule reads as the row.
-use Rattle.std.proofs.Common.{◌≡◌, ℕ, ◌^◌, ◌<◌, ◌≤◌, List, length, Ok, refl, lt-ltb, arith}
-use Rattle.std.specs.Prelude.{Option, Some, None, IfSome}
+use Rattle.std.proofs.Common.{◌≡◌, ℕ, false, ◌^◌, ◌<◌, ◌≤◌, List, length, Result, Ok, refl, sym, ap, ◌∙◌, lt-ltb, arith}
+use Rattle.std.specs.Prelude.{Option, Some, None, IfSome, codes}
+use Rattle.std.specs.Str.{bytes_eq}
 use Rattle.serde_json.specs.Data.{string}
 use Rattle.sg_base.specs.declared.ids.LayoutId.{LayoutId}
 use Rattle.sg_base.specs.declared.campaign.Campaign.{Campaign as CampaignRow}
@@ -16,15 +17,19 @@ use Rattle.sg_base.specs.declared.zone.ZoneRule.TheVariants.{Offset, Posix}
 use Rattle.sg_base.specs.Daypart.{DaypartRow}
 use Rattle.sg_base.specs.Repeat.{RepeatRow, IsRepeat}
 use Rattle.sg_base.specs.Event.{EventRow}
+use Rattle.sg_rows.specs.declared.form.Form.TheVariants.{Manifest, Edit}
+use Rattle.sg_rows.specs.declared.scheduled.EventRow.{EventRow as ScheduledRow}
+use Rattle.sg_rows.specs.EditRows.{scheduled_json}
+use Rattle.sg_rows.specs.declared.fault.RowFault.{RowFault}
 use Rattle.sg_rows.specs.Zone.{IsZone}
-use Rattle.sg_rows.specs.Rows.{IsLayoutId, IsCampaignRow, IsException, IsDaypartRow, IsTarget, IsWhen, IsRepeatRow, IsEventRow}
-use Rattle.sg_rows.specs.Text.{layout_id_json, campaign_json, exception_json, daypart_json, unit_text, until_json, repeat_json, target_json, when_json, event_json, zone_json}
-use Rattle.sg_rows.specs.Reading.{number_at}
-use Rattle.sg_rows.specs.Schedules.{layout_id_at, some_layouts, campaign_at, window_at, exception_at, daypart_at, unit_at, nullable_at, repeat_at, target_at, custom_at, named_at, when_at, event_at, rule_at, zone_at}
+use Rattle.sg_rows.specs.Rows.{IsLayoutId, IsCampaignRow, IsException, IsDaypartRow, IsTarget, IsWhen, IsRepeatRow, IsEventRow, IsLayoutRow, IsListed}
+use Rattle.sg_rows.specs.Text.{whole, layout_json, file_json, layout_id_json, campaign_json, exception_json, daypart_json, weekdays, unit_text, until_json, repeat_json, target_json, when_json, event_json, zone_json}
+use Rattle.sg_rows.specs.Parts.{number_at, nullable_at}
+use Rattle.sg_rows.specs.Reading.{layout_id_at, some_layouts, campaign_at, window_at, small, exception_at, daypart_at, unit_at, repeat_at, is_later_repeat, target_at, custom_at, named_at, when_at, parts_at, made_repeat, made_event, event_at, rule_at, zone_at}
 use Rattle.sg_rows.proofs.ZoneLemmas.{minutes_of_zone, telling_again}
 use Rattle.sg_rows.proofs.DayLemmas.{days_again}
-use Rattle.sg_rows.proofs.ScheduleLemmas.{daypart_rises}
-use Rattle.sg_rows.proofs.AgainRows.{list_again, id_again, minutes_again}
+use Rattle.sg_rows.proofs.OrderLemmas.{sorted_again, rises_from_ascends}
+use Rattle.sg_rows.proofs.AgainRows.{list_again, id_again, integer_again}
 
 layout_id_again : (l : LayoutId) → IsLayoutId l → layout_id_at (layout_id_json l) ≡ Ok l
 unfolding layout_id_at
@@ -59,8 +64,8 @@ daypart_again d h =
       lt-ltb d.window.start (2 ^ 32) h.window.start,
       lt-ltb d.window.end (2 ^ 32) h.window.end,
       list_again exception_json exception_at IsException exception_again d.exceptions h.exceptions,
-      daypart_rises d h.accepted,
       h.accepted.sound,
+      sorted_again (λ (e : ℕ × Window). e.0) d.exceptions (rises_from_ascends d.exceptions h.accepted.ordered),
     ) refl
 
 unit_again : (u : RepeatUnit) → unit_at (string (unit_text u)) ≡ Ok u
@@ -74,11 +79,27 @@ until_again : (o : Option ℕ) → IfSome o (λ day. day < 2 ^ 32) → nullable_
 until_again None h = refl
 until_again (Some day) h = rw (lt-ltb day (2 ^ 32) h) refl
 
-repeat_again : (o : Option RepeatRow) → IfSome o IsRepeatRow → IfSome o IsRepeat → nullable_at repeat_at (repeat_json o) ≡ Ok o
+-- a repeat of its form, whatever its own fault
+repeat_again : (o : Option RepeatRow) → IfSome o IsRepeatRow → nullable_at repeat_at (repeat_json o) ≡ Ok o
 unfolding repeat_at
-repeat_again None h a = refl
-repeat_again (Some r) h a =
-    rw (days_again r.days h.days, lt-ltb r.every (2 ^ 32) h.every, unit_again r.unit, until_again r.until h.until, a.sound) refl
+repeat_again None h = refl
+repeat_again (Some r) h =
+    rw (days_again r.days h.days, lt-ltb r.every (2 ^ 32) h.every, unit_again r.unit, until_again r.until h.until) refl
+
+made_repeat_again : (o : Option RepeatRow) → IfSome o IsRepeat → made_repeat o ≡ Ok o
+made_repeat_again None h = refl
+made_repeat_again (Some r) h = rw h.sound refl
+
+unit_now : (u : RepeatUnit) → bytes_eq (unit_text u) (codes "month-weekday") ≡ false
+unit_now Hour = refl
+unit_now Day = refl
+unit_now Week = refl
+unit_now Month = refl
+unit_now Year = refl
+
+repeat_now : (o : Option RepeatRow) → is_later_repeat (repeat_json o) ≡ false
+repeat_now None = refl
+repeat_now (Some r) = unit_now r.unit
 
 target_again : (t : Target) → IsTarget t → target_at (target_json t) ≡ Ok t
 target_again (Layout id) h = rw (id_again id.0 h) refl
@@ -90,22 +111,44 @@ when_again Always h = refl
 when_again (Custom from to) h = rw (lt-ltb from (2 ^ 32) h.0, lt-ltb to (2 ^ 32) h.1) refl
 when_again (Named daypart date) h = rw (lt-ltb date (2 ^ 32) h.1, id_again daypart.0 h.0) refl
 
-pub event_again : (e : EventRow) → IsEventRow e → event_at (event_json e) ≡ Ok e
-unfolding event_at
-event_again e h =
+-- the members of an event, whatever its form
+pub parts_again : (e : EventRow) → IsEventRow e → parts_at Manifest (event_json e) ≡ Ok e
+unfolding parts_at
+parts_again e h =
     rw (
+      repeat_now e.repeat,
       id_again e.id.0 h.id,
       lt-ltb e.order (2 ^ 32) h.order,
       lt-ltb e.priority (2 ^ 32) h.priority,
-      repeat_again e.repeat h.repeat h.accepted.repeats,
+      repeat_again e.repeat h.repeat,
       lt-ltb e.share (2 ^ 32) h.share,
       target_again e.target h.target,
       when_again e.when h.when,
-      h.accepted.sound,
     ) refl
 
+pub parts_again_in_edit : (e : ScheduledRow) → IsEventRow e.event → parts_at Edit (scheduled_json e) ≡ Ok e.event
+unfolding parts_at
+parts_again_in_edit e h =
+    rw (
+      repeat_now e.event.repeat,
+      id_again e.event.id.0 h.id,
+      lt-ltb e.event.order (2 ^ 32) h.order,
+      lt-ltb e.event.priority (2 ^ 32) h.priority,
+      repeat_again e.event.repeat h.repeat,
+      lt-ltb e.event.share (2 ^ 32) h.share,
+      target_again e.event.target h.target,
+      when_again e.event.when h.when,
+    ) refl
+
+pub made_event_again : (e : EventRow) → IsEventRow e → made_event e ≡ Ok e
+made_event_again e h = rw (made_repeat_again e.repeat h.accepted.repeats, h.accepted.sound) refl
+
+pub event_again : (e : EventRow) → IsEventRow e → event_at (event_json e) ≡ Ok e
+unfolding event_at
+event_again e h = rw (parts_again e h) (made_event_again e h)
+
 rule_again : (z : ZoneRule) → IsZone z → rule_at (zone_json z) ≡ Ok z
-rule_again (Offset z) h = rw (minutes_again z (minutes_of_zone z h)) refl
+rule_again (Offset z) h = rw (integer_again z (minutes_of_zone z h)) refl
 rule_again (Posix text) h = refl
 
 pub zone_again : (z : ZoneRule) → IsZone z → zone_at (zone_json z) ≡ Ok z

@@ -1,15 +1,15 @@
 -- The weekdays of a repeat and the bits that stand for them.
-use Rattle.std.proofs.Common.{◌≡◌, ◌≢◌, ℕ, zero, suc, ◌+◌, ◌-◌, ◌/◌, ◌%◌, ◌^◌, ◌<◌, ◌≤◌, ◌==◌, ◌&&◌, nat_le, Bool, true, false, List, [], ◌∷◌, ◌++◌, filter, take, get_or, Result, Ok, Err, refl, sym, ap, subst, cond, ◌∙◌, arith, eqb-true}
+use Rattle.std.proofs.Common.{◌≡◌, ◌≢◌, ℕ, zero, suc, ◌+◌, ◌-◌, ◌/◌, ◌%◌, ◌^◌, ◌<◌, ◌≤◌, ◌==◌, ◌&&◌, nat_le, Bool, true, false, List, [], ◌∷◌, ◌++◌, filter, take, length, get_or, Result, Ok, Err, refl, sym, ap, subst, cond, ◌∙◌, arith, eqb-true}
 use Rattle.std.proofs.lemmas.Bool.{and_parts, eqb-false}
 use Rattle.std.proofs.lemmas.List.{append-nil}
 use Rattle.std.proofs.lemmas.List.Elements.{filter_more}
 use borrow.Author.Tests.{leb-true}
-use Rattle.sg_rows.specs.declared.fault.ManifestFault.{ManifestFault}
+use Rattle.sg_rows.specs.declared.fault.RowFault.{RowFault}
 use Rattle.sg_rows.specs.Text.{whole, list_of, weekdays}
-use Rattle.sg_rows.specs.Schedules.{days_at}
+use Rattle.sg_rows.specs.Reading.{days_at}
 
 -- what passes below a bound
-passes_below : (ℕ → Bool) → ℕ → Bool
+unfoldable pub passes_below : (ℕ → Bool) → ℕ → Bool
 passes_below p zero = true
 passes_below p (suc n) = p n && passes_below p n
 
@@ -17,7 +17,7 @@ here_or_below : (p : ℕ → Bool) (n k : ℕ) (b : Bool) → (n == k) ≡ b →
 here_or_below p n k true e here below h = ap p (eqb-true n k e) ∙ here
 here_or_below p n k false e here below h = let other : n ≢ k = eqb-false n k e in below (omega arith)
 
-passes_at : (p : ℕ → Bool) (bound n : ℕ) → passes_below p bound ≡ true → n < bound → p n ≡ true
+pub passes_at : (p : ℕ → Bool) (bound n : ℕ) → passes_below p bound ≡ true → n < bound → p n ≡ true
 unfolding passes_below
 passes_at p zero n e h = absurd (omega arith)
 passes_at p (suc k) n e h =
@@ -37,11 +37,11 @@ unfolding passes_below
 bit_low i h = leb-true _ _ (passes_at (λ n. nat_le (get_or bits n 0) 64) 7 i refl h)
 
 -- the reading gave this number
-is_this : ℕ → Result ℕ ManifestFault → Bool
+is_this : ℕ → Result ℕ RowFault → Bool
 is_this n (Ok m) = m == n
 is_this n (Err e) = false
 
-this_is : (n : ℕ) (r : Result ℕ ManifestFault) → is_this n r ≡ true → r ≡ Ok n
+this_is : (n : ℕ) (r : Result ℕ RowFault) → is_this n r ≡ true → r ≡ Ok n
 unfolding is_this
 this_is n (Ok m) e = ap Ok (eqb-true m n e)
 this_is n (Err f) e = absurd (cc)

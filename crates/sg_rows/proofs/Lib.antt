@@ -1,9 +1,12 @@
 pub mod Compact
 pub mod CompactSound
 pub mod RowLemmas
+pub mod PartLemmas
+pub mod OrderLemmas
+pub mod DaypartLemmas
 pub mod ZoneLemmas
 pub mod DayLemmas
-pub mod ScheduleLemmas
 pub mod SoundRows
 pub mod AgainRows
 pub mod AgainSchedules
+pub mod AgainEdits

@@ -11,8 +11,9 @@ use Rattle.sg_base.specs.declared.zone.ZoneRule.TheVariants.{Offset, Posix}
 use Rattle.sg_base.specs.declared.zone.ZoneRule.{ZoneRule}
 use Rattle.sg_calendar.specs.Zone.{ZoneView, is_text, zone_of, zone_of_text}
 use Rattle.sg_calendar.specs.declared.zone.ZoneFault.{ZoneFault}
+use Rattle.sg_rows.specs.declared.fault.RowFault.{RowFault}
 use Rattle.sg_rows.specs.Zone.{IsZone, IsMinutes}
-use Rattle.sg_rows.specs.Schedules.{telling}
+use Rattle.sg_rows.specs.Reading.{telling}
 
 -- minutes within 14 hours are a zone
 pub zone_of_minutes : (z : ℤ) → IsMinutes z → IsZone (Offset z)

@@ -1,6 +1,9 @@
 pub mod Zone
 pub mod Rows
 pub mod Text
+pub mod Faults
+pub mod Parts
+pub mod Order
 pub mod Reading
-pub mod Schedules
+pub mod EditRows
 pub mod Compact

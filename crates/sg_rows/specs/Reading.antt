@@ -1,110 +1,263 @@
--- For private clauses: the row that JSON reads as, or the fault. What isn't canonical shows when the row's text
--- is compared with what was read, so nothing here looks at order, spaces or members beyond those that are wanted.
-use Rattle.std.specs.Prelude.{◌≡◌, ℕ, ◌^◌, ◌||◌, ℤ, pos, negsuc, int_lt, List, [], ◌∷◌, ◌++◌, codes, nat_lt, if◌then◌else◌, Option, Some, None, option_and_then, Result, Ok, Err}
-use Rattle.std.specs.Result.{result_ok}
+-- The row that JSON says, or its first fault: `Later`, then `Shape`, then that of the row's constructor. Members may
+-- come in any order; which text is the canonical one is no question of a row.
+use Rattle.std.specs.Prelude.{ℕ, ◌+◌, ◌-◌, ◌^◌, ◌&&◌, ◌==◌, nat_lt, Bool, true, false, not, List, [], ◌∷◌, codes, length, if◌then◌else◌, is_some, unwrap_or, Option, Some, None, option_map, option_and_then, Result, Ok, Err}
+use Rattle.std.specs.Str.{bytes_eq}
 use Rattle.serde_json.specs.Data.{Data, Items, no_items, item}
-use Rattle.serde_json.specs.Find.{get, as_number, as_str, as_array, as_u64, as_i64}
-use Rattle.hex.specs.Hex.{decode_sized}
+use Rattle.serde_json.specs.Find.{get, as_bool, as_str, as_array}
+use Rattle.sg_base.specs.declared.ids.LayoutId.{LayoutId}
 use Rattle.sg_base.specs.declared.layout.Item.{Item}
 use Rattle.sg_base.specs.declared.layout.Region.{Region}
 use Rattle.sg_base.specs.declared.file.Listed.{Listed}
+use Rattle.sg_base.specs.declared.campaign.Campaign.{Campaign as CampaignRow}
+use Rattle.sg_base.specs.declared.daypart.Window.{Window}
+use Rattle.sg_base.specs.declared.repeat.Unit.{Unit as RepeatUnit}
+use Rattle.sg_base.specs.declared.repeat.Unit.TheVariants.{Hour, Day, Week, Month, Year}
+use Rattle.sg_base.specs.declared.event.When.{When}
+use Rattle.sg_base.specs.declared.event.When.TheVariants.{Always, Custom, Named}
+use Rattle.sg_base.specs.declared.event.Target.{Target}
+use Rattle.sg_base.specs.declared.event.Target.TheVariants.{Layout, Campaign}
+use Rattle.sg_base.specs.declared.zone.ZoneRule.{ZoneRule}
+use Rattle.sg_base.specs.declared.zone.ZoneRule.TheVariants.{Offset, Posix}
 use Rattle.sg_base.specs.Layout.{LayoutRow, layout_fault}
-use Rattle.sg_rows.specs.declared.fault.ManifestFault.{ManifestFault}
-use Rattle.sg_rows.specs.declared.fault.ManifestFault.TheVariants.{NotBuilt, Memory}
+use Rattle.sg_base.specs.Daypart.{DaypartRow, daypart_fault}
+use Rattle.sg_base.specs.Repeat.{RepeatRow, repeat_fault}
+use Rattle.sg_base.specs.Event.{EventRow, event_fault}
+use Rattle.sg_calendar.specs.Zone.{ZoneView, zone_of}
+use Rattle.sg_calendar.specs.declared.zone.ZoneFault.{ZoneFault}
+use Rattle.sg_rows.specs.declared.form.Form.{Form}
+use Rattle.sg_rows.specs.declared.form.Form.TheVariants.{Manifest, Edit}
+use Rattle.sg_rows.specs.declared.fault.RowFault.{RowFault}
+use Rattle.sg_rows.specs.declared.fault.RowFault.TheVariants as fault
+use Rattle.sg_rows.specs.declared.fault.RowFault.TheVariants.{Shape, Later}
+use Rattle.sg_rows.specs.Faults.{◌>>=◌, needs, wants, faultless}
+use Rattle.sg_rows.specs.Parts.{exactly, has_count, has_member, member_at, number_at, positive, id_at, text_at, integer_at, digest_at, items_at, list_at, nullable_at}
+use Rattle.sg_rows.specs.Order.{sorted_by}
 
-infixl 10 ◌>>=◌
-abbrev pub ◌>>=◌ : {A B : Type 0} → Result A ManifestFault → (A → Result B ManifestFault) → Result B ManifestFault
-(Ok x) >>= f = f x
-(Err e) >>= f = Err e
-
--- want of memory is the one free answer
-abbrev pub Fails : {A : Type 0} → ManifestFault → Result A ManifestFault → Type 0
-Fails Memory reading = Unit {0}
-Fails NotBuilt reading = reading ≡ Err NotBuilt
-
--- the answer is what the definition reads, under f, unless memory ran out
-abbrev pub Gives : {X A : Type 0} → (X → A) → Result X ManifestFault → Result A ManifestFault → Type 0
-Gives f (Ok x) reading = reading ≡ Ok (f x)
-Gives f (Err e) reading = Fails e reading
-
-abbrev pub found : {A : Type 0} → Option A → Result A ManifestFault
-found (Some x) = Ok x
-found None = Err NotBuilt
-
--- the member of this name, read by f
-abbrev pub member_at : {A : Type 0} → (Data → Result A ManifestFault) → List ℕ → Data → Result A ManifestFault
-member_at f name d = found (get name d) >>= f
-
-abbrev pub below : ℕ → ℕ → Option ℕ
-below bound n = if nat_lt n bound then Some n else None
-
--- a number of 32 bits, written with no fraction or exponent
-abbrev pub number_at : Data → Result ℕ ManifestFault
-number_at d = found (option_and_then (below (2 ^ 32)) (option_and_then as_u64 (as_number d)))
-
-abbrev pub positive : ℕ → Result ℕ ManifestFault
-positive n = if nat_lt 0 n then Ok n else Err NotBuilt
-
-unfoldable pub id_at : Data → Result ℕ ManifestFault
-id_at d = do
-  n ← number_at d
-  positive n
-
-abbrev pub each_at : {A : Type 0} → (Data → Result A ManifestFault) → Items → Result (List A) ManifestFault
-each_at f no_items = Ok []
-each_at f (item d ds) = f d >>= (λ x. each_at f ds >>= (λ xs. Ok (x ∷ xs)))
-
-abbrev pub list_at : {A : Type 0} → (Data → Result A ManifestFault) → Data → Result (List A) ManifestFault
-list_at f d = found (as_array d) >>= each_at f
-
--- more rows behind those that were read
-abbrev pub with_front : {A : Type 0} → List A → Result (List A) ManifestFault → Result (List A) ManifestFault
-with_front xs (Ok ys) = Ok (xs ++ ys)
-with_front xs (Err e) = Err e
-
-unfoldable pub item_at : Data → Result Item ManifestFault
-item_at d = do
-  media ← member_at id_at (codes "media") d
-  seconds ← member_at number_at (codes "seconds") d
-  Ok (record { media = record { 0 = media }; seconds = seconds })
-
-unfoldable pub region_at : Data → Result Region ManifestFault
-region_at d = do
-  id ← member_at id_at (codes "id") d
-  items ← member_at (list_at item_at) (codes "items") d
-  Ok (record { id = id; items = items })
-
--- what has no fault
-abbrev pub faultless : {F A : Type 0} → Option F → A → Result A ManifestFault
-faultless None x = Ok x
-faultless (Some f) x = Err NotBuilt
-
-unfoldable pub layout_at : Data → Result LayoutRow ManifestFault
-layout_at d = do
-  id ← member_at id_at (codes "id") d
-  regions ← member_at (list_at region_at) (codes "regions") d
-  faultless (layout_fault regions) (record { id = record { 0 = id }; regions = regions })
+-- ---- files
 
 -- a length of 1 to 67,108,864 bytes
-abbrev pub file_length : ℕ → Result ℕ ManifestFault
-file_length n = if nat_lt 67108864 n then Err NotBuilt else positive n
+abbrev pub file_length : ℕ → Result ℕ RowFault
+file_length n = if nat_lt 67108864 n then Err Shape else positive n
 
-unfoldable pub digest_at : Data → Result (List ℕ) ManifestFault
-digest_at d = do
-  digits ← found (as_str d)
-  found (result_ok (decode_sized digits 16))
-
-unfoldable pub file_at : Data → Result Listed ManifestFault
+unfoldable pub file_at : Data → Result Listed RowFault
 file_at d = do
+  form ← exactly 3 d
   id ← member_at id_at (codes "id") d
   n ← member_at number_at (codes "length") d
   length ← file_length n
   md5 ← member_at digest_at (codes "md5") d
   Ok (record { media = record { 0 = id }; length = length; md5 = md5 })
 
--- an offset within 14 hours of UTC
-abbrev pub minutes : ℤ → Option ℤ
-minutes z = if int_lt z (negsuc 839) || int_lt (pos 840) z then None else Some z
+-- ---- layouts
 
-abbrev pub minutes_at : Data → Result ℤ ManifestFault
-minutes_at d = found (option_and_then minutes (option_and_then as_i64 (as_number d)))
+unfoldable pub item_at : Data → Result Item RowFault
+item_at d = do
+  form ← exactly 2 d
+  media ← member_at id_at (codes "media") d
+  seconds ← member_at number_at (codes "seconds") d
+  Ok (record { media = record { 0 = media }; seconds = seconds })
+
+unfoldable pub region_at : Data → Result Region RowFault
+region_at d = do
+  form ← exactly 2 d
+  id ← member_at id_at (codes "id") d
+  items ← member_at (list_at item_at) (codes "items") d
+  Ok (record { id = id; items = items })
+
+unfoldable pub layout_at : Data → Result LayoutRow RowFault
+layout_at d = do
+  form ← exactly 2 d
+  id ← member_at id_at (codes "id") d
+  regions ← member_at (list_at region_at) (codes "regions") d
+  faultless fault.Layout (layout_fault regions) (record { id = record { 0 = id }; regions = regions })
+
+-- ---- campaigns
+
+unfoldable pub layout_id_at : Data → Result LayoutId RowFault
+layout_id_at d = do
+  id ← id_at d
+  Ok (record { 0 = id })
+
+-- 1 to 64 layouts
+abbrev pub some_layouts : List LayoutId → Result (List LayoutId) RowFault
+some_layouts ls = if nat_lt 0 (length ls) && nat_lt (length ls) 65 then Ok ls else Err Shape
+
+unfoldable pub campaign_at : Data → Result CampaignRow RowFault
+campaign_at d = do
+  form ← exactly 2 d
+  id ← member_at id_at (codes "id") d
+  ls ← member_at (list_at layout_id_at) (codes "layouts") d
+  layouts ← some_layouts ls
+  Ok (record { id = record { 0 = id }; layouts = layouts })
+
+-- ---- dayparts
+
+unfoldable pub window_at : Data → Result Window RowFault
+window_at d = do
+  start ← member_at number_at (codes "start") d
+  end ← member_at number_at (codes "end") d
+  Ok (record { start = start; end = end })
+
+-- a number of 8 bits
+abbrev pub small : ℕ → Result ℕ RowFault
+small n = if nat_lt n 256 then Ok n else Err Shape
+
+unfoldable pub exception_at : Data → Result (ℕ × Window) RowFault
+exception_at d = do
+  form ← exactly 3 d
+  n ← member_at number_at (codes "day") d
+  day ← small n
+  window ← window_at d
+  Ok (day, window)
+
+-- exceptions may come in any order, and the daypart has them by weekday
+unfoldable pub daypart_at : Data → Result DaypartRow RowFault
+daypart_at d = do
+  now ← needs (not (has_member (codes "dates") d)) Later
+  form ← exactly 4 d
+  id ← member_at id_at (codes "id") d
+  window ← window_at d
+  es ← member_at (list_at exception_at) (codes "exceptions") d
+  faultless fault.Daypart (daypart_fault window es) (record { id = record { 0 = id }; window = window; exceptions = sorted_by (λ e. e.0) es })
+
+-- ---- repeats
+
+-- the bits of some weekdays and of a later one
+abbrev pub with_bit : ℕ → ℕ → Result ℕ RowFault
+with_bit bits bit = if nat_lt bits bit then Ok (bits + bit) else Err Shape
+
+-- a weekday is 1 to 7
+abbrev pub with_weekday : ℕ → ℕ → Result ℕ RowFault
+with_weekday bits w = if nat_lt 0 w && nat_lt w 8 then with_bit bits (2 ^ (w - 1)) else Err Shape
+
+-- ascending weekdays, behind those with these bits
+abbrev pub days_from : ℕ → Items → Result ℕ RowFault
+days_from bits no_items = Ok bits
+days_from bits (item d ds) = number_at d >>= (λ w. with_weekday bits w >>= (λ more. days_from more ds))
+
+abbrev pub days_at : Data → Result ℕ RowFault
+days_at d = items_at d >>= days_from 0
+
+abbrev pub unit_of : List ℕ → Option RepeatUnit
+unit_of name =
+    if bytes_eq name (codes "hour") then Some Hour
+    else (if bytes_eq name (codes "day") then Some Day
+    else (if bytes_eq name (codes "week") then Some Week
+    else (if bytes_eq name (codes "month") then Some Month
+    else (if bytes_eq name (codes "year") then Some Year else None))))
+
+abbrev pub unit_at : Data → Result RepeatUnit RowFault
+unit_at d = text_at d >>= (λ name. wants (unit_of name) Shape)
+
+-- its form alone: a repeat's own fault comes after the form of the whole event
+unfoldable pub repeat_at : Data → Result RepeatRow RowFault
+repeat_at d = do
+  form ← exactly 4 d
+  days ← member_at days_at (codes "days") d
+  every ← member_at number_at (codes "every") d
+  unit ← member_at unit_at (codes "unit") d
+  until ← member_at (nullable_at number_at) (codes "until") d
+  Ok (record { unit = unit; every = every; days = days; until = until })
+
+-- the unit of a later version
+abbrev pub is_later_unit : Data → Bool
+is_later_unit d = unwrap_or (option_map (λ name. bytes_eq name (codes "month-weekday")) (as_str d)) false
+
+abbrev pub is_later_repeat : Data → Bool
+is_later_repeat d = unwrap_or (option_map is_later_unit (get (codes "unit") d)) false
+
+-- ---- events
+
+abbrev pub layout_target : Data → Result Target RowFault
+layout_target d = member_at id_at (codes "layout") d >>= (λ id. Ok (Layout (record { 0 = id })))
+
+abbrev pub campaign_target : Data → Result Target RowFault
+campaign_target d = member_at id_at (codes "campaign") d >>= (λ id. Ok (Campaign (record { 0 = id })))
+
+abbrev pub target_at : Data → Result Target RowFault
+target_at d = exactly 1 d >>= (λ form. if has_member (codes "layout") d then layout_target d else campaign_target d)
+
+-- the one value of `always` is true
+abbrev pub is_true : Data → Bool
+is_true d = unwrap_or (as_bool d) false
+
+abbrev pub true_at : Data → Result (Unit {0}) RowFault
+true_at d = needs (is_true d) Shape
+
+abbrev pub always_at : Data → Result When RowFault
+always_at d = exactly 1 d >>= (λ form. member_at true_at (codes "always") d >>= (λ one. Ok Always))
+
+unfoldable pub custom_at : Data → Result When RowFault
+custom_at d = do
+  form ← exactly 2 d
+  from ← member_at number_at (codes "from") d
+  to ← member_at number_at (codes "to") d
+  Ok (Custom from to)
+
+unfoldable pub named_at : Data → Result When RowFault
+named_at d = do
+  form ← exactly 2 d
+  date ← member_at number_at (codes "date") d
+  daypart ← member_at id_at (codes "daypart") d
+  Ok (Named (record { 0 = daypart }) date)
+
+abbrev pub when_at : Data → Result When RowFault
+when_at d = if has_member (codes "always") d then always_at d else (if has_member (codes "from") d then custom_at d else named_at d)
+
+abbrev pub is_later_event : Data → Bool
+is_later_event d = unwrap_or (option_map is_later_repeat (get (codes "repeat") d)) false
+
+-- in an edit an event also has `displays` and `groups`
+abbrev pub event_members : Form → ℕ
+event_members Manifest = 7
+event_members Edit = 9
+
+-- the seven members of an event, in either form
+unfoldable pub parts_at : Form → Data → Result EventRow RowFault
+parts_at form d = do
+  now ← needs (not (is_later_event d)) Later
+  all ← exactly (event_members form) d
+  id ← member_at id_at (codes "id") d
+  order ← member_at number_at (codes "order") d
+  priority ← member_at number_at (codes "priority") d
+  repeat ← member_at (nullable_at repeat_at) (codes "repeat") d
+  share ← member_at number_at (codes "share") d
+  target ← member_at target_at (codes "target") d
+  w ← member_at when_at (codes "when") d
+  Ok (record { id = record { 0 = id }; target = target; when = w; repeat = repeat; order = order; priority = priority; share = share })
+
+-- the repeat's own fault
+abbrev pub made_repeat : Option RepeatRow → Result (Option RepeatRow) RowFault
+made_repeat None = Ok None
+made_repeat (Some r) = faultless fault.Repeat (repeat_fault r.unit r.every r.days r.until) (Some r)
+
+-- the event's own fault, after its repeat's
+abbrev pub made_event : EventRow → Result EventRow RowFault
+made_event e = made_repeat e.repeat >>= (λ r. faultless fault.Event (event_fault e.target e.when r e.order e.priority e.share) (record { id = e.id; target = e.target; when = e.when; repeat = r; order = e.order; priority = e.priority; share = e.share }))
+
+-- an event of a manifest
+unfoldable pub event_at : Data → Result EventRow RowFault
+event_at d = do
+  parts ← parts_at Manifest d
+  made_event parts
+
+-- ---- zones
+
+abbrev pub offset_rule : Data → Result ZoneRule RowFault
+offset_rule d = member_at integer_at (codes "offset") d >>= (λ z. Ok (Offset z))
+
+abbrev pub posix_rule : Data → Result ZoneRule RowFault
+posix_rule d = member_at text_at (codes "posix") d >>= (λ text. Ok (Posix text))
+
+abbrev pub rule_at : Data → Result ZoneRule RowFault
+rule_at d = exactly 1 d >>= (λ form. if has_member (codes "offset") d then offset_rule d else posix_rule d)
+
+abbrev pub telling : Result ZoneView ZoneFault → ZoneRule → Result ZoneRule RowFault
+telling (Ok z) rule = Ok rule
+telling (Err e) rule = Err (fault.Zone e)
+
+-- a rule that tells a zone
+unfoldable pub zone_at : Data → Result ZoneRule RowFault
+zone_at d = do
+  rule ← rule_at d
+  telling (zone_of rule) rule

@@ -76,6 +76,16 @@ pub record IsRepeatRow (r : RepeatRow) : Type 0 where
   pub days : r.days < 2 ^ 7
   pub until : IfSome r.until (λ day. day < 2 ^ 32)
 
+-- the numbers of an event fit, its repeat's too
+pub record IsEventParts (e : EventRow) : Type 0 where
+  pub id : IsId e.id.0
+  pub target : IsTarget e.target
+  pub when : IsWhen e.when
+  pub repeat : IfSome e.repeat IsRepeatRow
+  pub order : e.order < 2 ^ 32
+  pub priority : e.priority < 2 ^ 32
+  pub share : e.share < 2 ^ 32
+
 pub record IsEventRow (e : EventRow) : Type 0 where
   pub id : IsId e.id.0
   pub target : IsTarget e.target

@@ -3,11 +3,11 @@
 ghost use Rattle.std.specs.Prelude.{◌≡◌, ◌≤◌, length, IfOk};
 ghost use Rattle.std.specs.List.{AllByRecursion};
 ghost use Rattle.sg_rows.specs.Rows.{IsLayoutId};
-ghost use Rattle.sg_rows.specs.Reading.{Gives};
-ghost use Rattle.sg_rows.specs.Schedules.{some_layouts};
+ghost use Rattle.sg_rows.specs.Faults.{Gives};
+ghost use Rattle.sg_rows.specs.Reading.{some_layouts};
 
-use crate::entry::{Entry, read_list, write_list};
-use crate::fault::ManifestFault;
+use crate::entry::{Entry, Keyed, read_list, write_list};
+use crate::fault::RowFault;
 use crate::part;
 use serde_json::{Value, json};
 use sg_base::{Campaign, CampaignId, LayoutId, Rows};
@@ -16,10 +16,10 @@ use std::alloc::{AllocError, Global};
 /// The most layouts of a campaign.
 const LAYOUTS_LIMIT: usize = 64;
 
-#[tactic(auto, unfolding(crate::specs::Schedules::layout_id_at))]
+#[tactic(auto, unfolding(crate::specs::Reading::layout_id_at))]
 impl Entry for LayoutId {
     ghost use Rattle.sg_rows.specs.Text.{layout_id_json};
-    ghost use Rattle.sg_rows.specs.Schedules.{layout_id_at};
+    ghost use Rattle.sg_rows.specs.Reading.{layout_id_at};
     ghost use Rattle.sg_rows.specs.Rows.{IsLayoutId};
 
     ghost json = { layout_id_json };
@@ -32,14 +32,14 @@ impl Entry for LayoutId {
         Ok(Value::from(self.0))
     }
 
-    fn read(_alloc: Global, value: &Value) -> Result<LayoutId, ManifestFault> {
+    fn read(_alloc: Global, value: &Value) -> Result<LayoutId, RowFault> {
         let id = part::whole_id(value)?;
         Ok(LayoutId(id))
     }
 }
 
 /// 1 to 64 layouts.
-fn some_layouts(layouts: Vec<LayoutId>) -> Result<Rows<LayoutId>, ManifestFault>
+fn some_layouts(layouts: Vec<LayoutId>) -> Result<Rows<LayoutId>, RowFault>
     requires { AllByRecursion IsLayoutId layouts.items }
     ensures gives { Gives (λ ls. ls) result (some_layouts layouts.items) }
     ensures some { IfOk result (λ ls. 1 ≤ length ls) }
@@ -47,15 +47,15 @@ fn some_layouts(layouts: Vec<LayoutId>) -> Result<Rows<LayoutId>, ManifestFault>
     ensures sound { IfOk result (λ ls. AllByRecursion IsLayoutId ls) }
 {
     if layouts.is_empty() || layouts.len() > LAYOUTS_LIMIT {
-        return Err(ManifestFault::NotBuilt);
+        return Err(RowFault::Shape);
     }
     Ok(Rows::from_vec(layouts))
 }
 
-#[tactic(auto, unfolding(crate::specs::Schedules::campaign_at))]
+#[tactic(auto, unfolding(crate::specs::Reading::campaign_at))]
 impl Entry for Campaign {
     ghost use Rattle.sg_rows.specs.Text.{campaign_json};
-    ghost use Rattle.sg_rows.specs.Schedules.{campaign_at};
+    ghost use Rattle.sg_rows.specs.Reading.{campaign_at};
     ghost use Rattle.sg_rows.specs.Rows.{IsCampaignRow};
 
     ghost json = { campaign_json };
@@ -69,12 +69,21 @@ impl Entry for Campaign {
         json!(in alloc; {"id": self.id.0, "layouts": layouts})
     }
 
-    fn read(alloc: Global, value: &Value) -> Result<Campaign, ManifestFault> {
+    fn read(alloc: Global, value: &Value) -> Result<Campaign, RowFault> {
+        part::exactly(value, 2)?;
         let id = part::id(value, "id")?;
         let layouts = some_layouts(read_list(alloc, part::member(value, "layouts")?)?)?;
         Ok(Campaign {
             id: CampaignId(id),
             layouts,
         })
+    }
+}
+
+impl Keyed for Campaign {
+    ghost key = { λ c. c.id.0 };
+
+    fn key(&self) -> u32 {
+        self.id.0
     }
 }

@@ -1,32 +1,36 @@
 //! Dayparts in JSON: a window with its exceptions.
 
-ghost use Rattle.std.specs.Prelude.{◌≡◌, ◌^◌, ◌<◌, IsTrue, IfOk};
+ghost use Rattle.std.specs.Prelude.{◌≡◌, ◌^◌, ◌<◌, IfOk, not, codes};
+ghost use Rattle.std.specs.List.{AllByRecursion};
 ghost use Rattle.serde_json.specs.View.{view};
-ghost use Rattle.sg_base.specs.Daypart.{IsDaypart, Ascends, daypart_fault};
-ghost use Rattle.sg_rows.specs.Reading.{Gives, faultless};
-ghost use Rattle.sg_rows.specs.Rows.{IsWindow};
-ghost use Rattle.sg_rows.specs.Schedules.{small, window_at, rise_from};
+ghost use Rattle.sg_base.specs.Daypart.{IsDaypart, daypart_fault};
+ghost use Rattle.sg_rows.specs.Faults.{Gives, needs, faultless};
+ghost use Rattle.sg_rows.specs.Order.{sorted_by};
+ghost use Rattle.sg_rows.specs.Parts.{has_member};
+ghost use Rattle.sg_rows.specs.Rows.{IsWindow, IsException, IsDaypartRow, IsId};
+ghost use Rattle.sg_rows.specs.Reading.{small, window_at};
+ghost use Rattle.sg_rows.specs.declared.fault.RowFault.TheVariants.{Later, Daypart as DaypartCause};
 
-use crate::entry::{Entry, read_list, write_list};
-use crate::fault::ManifestFault;
+use crate::entry::{Entry, Keyed, read_list, write_list};
+use crate::fault::RowFault;
 use crate::part;
 use serde_json::{Value, json};
 use sg_base::{Daypart, DaypartId, Window};
 use std::alloc::{AllocError, Global};
 
 /// A number of 8 bits.
-fn small(number: u32) -> Result<u8, ManifestFault>
+fn small(number: u32) -> Result<u8, RowFault>
     ensures { Gives (λ n. n) result (small number) }
 {
     if number < 256 {
         Ok(number as u8)
     } else {
-        Err(ManifestFault::NotBuilt)
+        Err(RowFault::Shape)
     }
 }
 
-#[tactic(auto, unfolding(crate::specs::Schedules::window_at))]
-fn window(value: &Value) -> Result<Window, ManifestFault>
+#[tactic(auto, unfolding(crate::specs::Reading::window_at))]
+fn window(value: &Value) -> Result<Window, RowFault>
     ensures gives { Gives (λ w. w) result (window_at (view value.now)) }
     ensures sound { IfOk result IsWindow }
 {
@@ -35,10 +39,10 @@ fn window(value: &Value) -> Result<Window, ManifestFault>
     Ok(Window { start, end })
 }
 
-#[tactic(auto, unfolding(crate::specs::Schedules::exception_at))]
+#[tactic(auto, unfolding(crate::specs::Reading::exception_at))]
 impl Entry for (u8, Window) {
     ghost use Rattle.sg_rows.specs.Text.{exception_json};
-    ghost use Rattle.sg_rows.specs.Schedules.{exception_at};
+    ghost use Rattle.sg_rows.specs.Reading.{exception_at};
     ghost use Rattle.sg_rows.specs.Rows.{IsException};
 
     ghost json = { exception_json };
@@ -51,49 +55,44 @@ impl Entry for (u8, Window) {
         json!(in alloc; {"day": self.0, "end": self.1.end, "start": self.1.start})
     }
 
-    fn read(_alloc: Global, value: &Value) -> Result<(u8, Window), ManifestFault> {
+    fn read(_alloc: Global, value: &Value) -> Result<(u8, Window), RowFault> {
+        part::exactly(value, 3)?;
         let day = small(part::number(value, "day")?)?;
         let window = window(value)?;
         Ok((day, window))
     }
 }
 
-/// Whether weekdays ascend, from 1 on.
-fn rise(exceptions: &[(u8, Window)]) -> bool
-    ensures value { result ≡ rise_from 0 exceptions.now }
-    ensures ascends { IsTrue result → Ascends exceptions.now }
+/// A daypart of a later version has exceptions for dates.
+fn not_later(value: &Value) -> Result<(), RowFault>
+    ensures { Gives (λ one. one) result (needs (not (has_member (codes "dates") (view value.now))) Later) }
 {
-    let mut last = 0;
-    for (day, _) in exceptions {
-        if *day <= last {
-            return false;
-        }
-        last = *day;
+    if part::has(value, "dates") {
+        Err(RowFault::Later)
+    } else {
+        Ok(())
     }
-    true
 }
 
-/// The daypart with exceptions that ascend, which its constructor leaves in their order.
-fn daypart_of(
-    id: u32,
-    window: Window,
-    exceptions: Vec<(u8, Window)>,
-) -> Result<Daypart, ManifestFault>
-    requires { Ascends exceptions.items }
-    ensures gives { Gives (λ d. d) result (faultless (daypart_fault window exceptions.items)
-        (record { id = record { 0 = id }; window = window; exceptions = exceptions.items })) }
-    ensures accepted { IfOk result IsDaypart }
+/// The daypart of windows, its exceptions by weekday.
+fn made(id: u32, window: Window, exceptions: Vec<(u8, Window)>) -> Result<Daypart, RowFault>
+    requires id { IsId id }
+    requires window { IsWindow window }
+    requires exceptions { AllByRecursion IsException exceptions.items }
+    ensures gives { Gives (λ d. d) result (faultless DaypartCause (daypart_fault window exceptions.items)
+        (record { id = record { 0 = id }; window = window; exceptions = sorted_by (λ e. e.0) exceptions.items })) }
+    ensures sound { IfOk result IsDaypartRow }
 {
     match Daypart::new(DaypartId(id), window, exceptions) {
         Ok(daypart) => Ok(daypart),
-        Err(_) => Err(ManifestFault::NotBuilt),
+        Err(fault) => Err(RowFault::Daypart(fault)),
     }
 }
 
-#[tactic(auto, unfolding(crate::specs::Schedules::daypart_at))]
+#[tactic(auto, unfolding(crate::specs::Reading::daypart_at))]
 impl Entry for Daypart {
     ghost use Rattle.sg_rows.specs.Text.{daypart_json};
-    ghost use Rattle.sg_rows.specs.Schedules.{daypart_at};
+    ghost use Rattle.sg_rows.specs.Reading.{daypart_at};
     ghost use Rattle.sg_rows.specs.Rows.{IsDaypartRow};
 
     ghost json = { daypart_json };
@@ -113,13 +112,20 @@ impl Entry for Daypart {
         })
     }
 
-    fn read(alloc: Global, value: &Value) -> Result<Daypart, ManifestFault> {
+    fn read(alloc: Global, value: &Value) -> Result<Daypart, RowFault> {
+        not_later(value)?;
+        part::exactly(value, 4)?;
         let id = part::id(value, "id")?;
         let window = window(value)?;
         let exceptions = read_list(alloc, part::member(value, "exceptions")?)?;
-        if !rise(exceptions.as_slice()) {
-            return Err(ManifestFault::NotBuilt);
-        }
-        daypart_of(id, window, exceptions)
+        made(id, window, exceptions)
+    }
+}
+
+impl Keyed for Daypart {
+    ghost key = { λ d. d.id.0 };
+
+    fn key(&self) -> u32 {
+        self.id().0
     }
 }

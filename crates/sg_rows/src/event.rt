@@ -1,24 +1,29 @@
 //! Events in JSON.
 
-ghost use Rattle.std.specs.Prelude.{◌≡◌, IfOk};
+ghost use Rattle.std.specs.Prelude.{◌≡◌, IfOk, not, codes};
 ghost use Rattle.serde_json.specs.View.{view};
 ghost use Rattle.sg_rows.specs.Text.{target_json, when_json};
-ghost use Rattle.sg_rows.specs.Reading.{Gives};
-ghost use Rattle.sg_rows.specs.Rows.{IsTarget, IsWhen};
-ghost use Rattle.sg_rows.specs.Schedules.{target_at, custom_at, named_at, when_at};
+ghost use Rattle.sg_rows.specs.Faults.{Gives, needs};
+ghost use Rattle.sg_rows.specs.Rows.{IsTarget, IsWhen, IsEventParts, IsEventRow};
+ghost use Rattle.sg_rows.specs.Parts.{member_at};
+ghost use Rattle.sg_rows.specs.Reading.{target_at, true_at, always_at, custom_at, named_at, when_at, is_later_event, parts_at, made_event};
+ghost use Rattle.sg_rows.specs.declared.fault.RowFault.TheVariants.{Later};
 
-use crate::entry::Entry;
-use crate::fault::ManifestFault;
+use crate::entry::{Entry, Keyed};
+use crate::fault::RowFault;
+use crate::form::Form;
 use crate::part;
-use crate::repeat::{read_repeat, write_repeat};
+use crate::repeat::{RepeatParts, is_later, made_repeat, read_repeat, write_repeat};
 use serde_json::{Value, json};
 use sg_base::{CampaignId, DaypartId, Event, EventId, LayoutId, Target, When};
 use std::alloc::{AllocError, Global};
+use std::marker::Model;
 
-fn read_target(value: &Value) -> Result<Target, ManifestFault>
+fn read_target(value: &Value) -> Result<Target, RowFault>
     ensures gives { Gives (λ t. t) result (target_at (view value.now)) }
     ensures sound { IfOk result IsTarget }
 {
+    part::exactly(value, 1)?;
     if part::has(value, "layout") {
         let layout = part::id(value, "layout")?;
         Ok(Target::Layout(LayoutId(layout)))
@@ -28,7 +33,7 @@ fn read_target(value: &Value) -> Result<Target, ManifestFault>
     }
 }
 
-fn write_target(alloc: Global, target: Target) -> Result<Value, AllocError>
+pub(crate) fn write_target(alloc: Global, target: Target) -> Result<Value, AllocError>
     ensures { IfOk result (λ v. view v ≡ target_json target) }
 {
     match target {
@@ -37,21 +42,42 @@ fn write_target(alloc: Global, target: Target) -> Result<Value, AllocError>
     }
 }
 
-#[tactic(auto, unfolding(crate::specs::Schedules::custom_at))]
-fn read_custom(value: &Value) -> Result<When, ManifestFault>
+/// The one value of `always` is true.
+fn is_true(value: &Value) -> Result<(), RowFault>
+    ensures { Gives (λ one. one) result (true_at (view value.now)) }
+{
+    match value.as_bool() {
+        Some(true) => Ok(()),
+        _ => Err(RowFault::Shape),
+    }
+}
+
+fn read_always(value: &Value) -> Result<When, RowFault>
+    ensures gives { Gives (λ w. w) result (always_at (view value.now)) }
+    ensures sound { IfOk result IsWhen }
+{
+    part::exactly(value, 1)?;
+    is_true(part::member(value, "always")?)?;
+    Ok(When::Always)
+}
+
+#[tactic(auto, unfolding(crate::specs::Reading::custom_at))]
+fn read_custom(value: &Value) -> Result<When, RowFault>
     ensures gives { Gives (λ w. w) result (custom_at (view value.now)) }
     ensures sound { IfOk result IsWhen }
 {
+    part::exactly(value, 2)?;
     let from = part::number(value, "from")?;
     let to = part::number(value, "to")?;
     Ok(When::Custom { from, to })
 }
 
-#[tactic(auto, unfolding(crate::specs::Schedules::named_at))]
-fn read_named(value: &Value) -> Result<When, ManifestFault>
+#[tactic(auto, unfolding(crate::specs::Reading::named_at))]
+fn read_named(value: &Value) -> Result<When, RowFault>
     ensures gives { Gives (λ w. w) result (named_at (view value.now)) }
     ensures sound { IfOk result IsWhen }
 {
+    part::exactly(value, 2)?;
     let date = part::number(value, "date")?;
     let daypart = part::id(value, "daypart")?;
     Ok(When::Named {
@@ -60,12 +86,12 @@ fn read_named(value: &Value) -> Result<When, ManifestFault>
     })
 }
 
-fn read_when(value: &Value) -> Result<When, ManifestFault>
+fn read_when(value: &Value) -> Result<When, RowFault>
     ensures gives { Gives (λ w. w) result (when_at (view value.now)) }
     ensures sound { IfOk result IsWhen }
 {
     if part::has(value, "always") {
-        Ok(When::Always)
+        read_always(value)
     } else if part::has(value, "from") {
         read_custom(value)
     } else {
@@ -73,7 +99,7 @@ fn read_when(value: &Value) -> Result<When, ManifestFault>
     }
 }
 
-fn write_when(alloc: Global, when: When) -> Result<Value, AllocError>
+pub(crate) fn write_when(alloc: Global, when: When) -> Result<Value, AllocError>
     ensures { IfOk result (λ v. view v ≡ when_json when) }
 {
     match when {
@@ -83,10 +109,93 @@ fn write_when(alloc: Global, when: When) -> Result<Value, AllocError>
     }
 }
 
-#[tactic(auto, unfolding(crate::specs::Schedules::event_at))]
+/// The values of an event, each of its form. Contracts see them as the event that they would make.
+#[derive(Clone, Copy, Debug)]
+pub(crate) struct EventParts {
+    id: EventId,
+    target: Target,
+    when: When,
+    repeat: Option<RepeatParts>,
+    order: u32,
+    priority: u32,
+    share: u32,
+}
+
+impl Model for EventParts {
+    ghost use Rattle.sg_base.specs.Event.{EventRow};
+
+    ghost Value = { EventRow };
+
+    ghost view = { λ e. record { id = e.id; target = e.target; when = e.when; repeat = e.repeat; order = e.order; priority = e.priority; share = e.share } };
+
+    ghost inverse = { λ e. record { id = e.id; target = e.target; when = e.when; repeat = e.repeat; order = e.order; priority = e.priority; share = e.share } };
+}
+
+/// The values of an event's own seven members, where it is of its form.
+#[tactic(auto, unfolding(crate::specs::Reading::parts_at))]
+pub(crate) fn read_parts(form: Form, value: &Value) -> Result<EventParts, RowFault>
+    ensures gives { Gives (λ e. e) result (parts_at form (view value.now)) }
+    ensures sound { IfOk result IsEventParts }
+{
+    not_later(value)?;
+    part::exactly(value, form.event_members())?;
+    let id = part::id(value, "id")?;
+    let order = part::number(value, "order")?;
+    let priority = part::number(value, "priority")?;
+    let repeat = read_repeat(part::member(value, "repeat")?)?;
+    let share = part::number(value, "share")?;
+    let target = read_target(part::member(value, "target")?)?;
+    let when = read_when(part::member(value, "when")?)?;
+    Ok(EventParts {
+        id: EventId(id),
+        target,
+        when,
+        repeat,
+        order,
+        priority,
+        share,
+    })
+}
+
+/// The event that values make. The fault of its repeat comes before its own.
+pub(crate) fn made(parts: EventParts) -> Result<Event, RowFault>
+    requires { IsEventParts parts }
+    ensures gives { Gives (λ e. e) result (made_event parts) }
+    ensures sound { IfOk result IsEventRow }
+{
+    let repeat = made_repeat(parts.repeat)?;
+    match Event::new(
+        parts.id,
+        parts.target,
+        parts.when,
+        repeat,
+        parts.order,
+        parts.priority,
+        parts.share,
+    ) {
+        Ok(event) => Ok(event),
+        Err(fault) => Err(RowFault::Event(fault)),
+    }
+}
+
+/// An event of a later version has a repeat of one.
+fn not_later(value: &Value) -> Result<(), RowFault>
+    ensures { Gives (λ one. one) result (needs (not (is_later_event (view value.now))) Later) }
+{
+    match value.get("repeat") {
+        Some(repeat) => if is_later(repeat) {
+            Err(RowFault::Later)
+        } else {
+            Ok(())
+        },
+        None => Ok(()),
+    }
+}
+
+#[tactic(auto, unfolding(crate::specs::Reading::event_at))]
 impl Entry for Event {
     ghost use Rattle.sg_rows.specs.Text.{event_json};
-    ghost use Rattle.sg_rows.specs.Schedules.{event_at};
+    ghost use Rattle.sg_rows.specs.Reading.{event_at};
     ghost use Rattle.sg_rows.specs.Rows.{IsEventRow};
 
     ghost json = { event_json };
@@ -110,17 +219,16 @@ impl Entry for Event {
         })
     }
 
-    fn read(_alloc: Global, value: &Value) -> Result<Event, ManifestFault> {
-        let id = part::id(value, "id")?;
-        let order = part::number(value, "order")?;
-        let priority = part::number(value, "priority")?;
-        let repeat = read_repeat(part::member(value, "repeat")?)?;
-        let share = part::number(value, "share")?;
-        let target = read_target(part::member(value, "target")?)?;
-        let when = read_when(part::member(value, "when")?)?;
-        match Event::new(EventId(id), target, when, repeat, order, priority, share) {
-            Ok(event) => Ok(event),
-            Err(_) => Err(ManifestFault::NotBuilt),
-        }
+    fn read(_alloc: Global, value: &Value) -> Result<Event, RowFault> {
+        let parts = read_parts(Form::Manifest, value)?;
+        made(parts)
+    }
+}
+
+impl Keyed for Event {
+    ghost key = { λ e. e.id.0 };
+
+    fn key(&self) -> u32 {
+        self.id().0
     }
 }

@@ -1,10 +1,11 @@
 //! Listed files in JSON.
 
 ghost use Rattle.std.specs.Prelude.{◌≡◌, ◌≤◌, IfOk};
-ghost use Rattle.sg_rows.specs.Reading.{Gives, file_length};
+ghost use Rattle.sg_rows.specs.Faults.{Gives};
+ghost use Rattle.sg_rows.specs.Reading.{file_length};
 
-use crate::entry::Entry;
-use crate::fault::ManifestFault;
+use crate::entry::{Entry, Keyed};
+use crate::fault::RowFault;
 use crate::part;
 use serde_json::{Value, json};
 use sg_base::{Listed, MediaId};
@@ -30,7 +31,8 @@ impl Entry for Listed {
         json!(in alloc; {"id": self.media.0, "length": self.length, "md5": digits})
     }
 
-    fn read(_alloc: Global, value: &Value) -> Result<Listed, ManifestFault> {
+    fn read(_alloc: Global, value: &Value) -> Result<Listed, RowFault> {
+        part::exactly(value, 3)?;
         let media = part::id(value, "id")?;
         let length = file_length(part::number(value, "length")?)?;
         let md5 = part::digest(value, "md5")?;
@@ -42,14 +44,22 @@ impl Entry for Listed {
     }
 }
 
+impl Keyed for Listed {
+    ghost key = { λ f. f.media.0 };
+
+    fn key(&self) -> u32 {
+        self.media.0
+    }
+}
+
 /// A length of 1 byte to the limit.
-fn file_length(length: u32) -> Result<u32, ManifestFault>
+fn file_length(length: u32) -> Result<u32, RowFault>
     ensures gives { Gives (λ n. n) result (file_length length) }
     ensures some { IfOk result (λ n. 1 ≤ n) }
     ensures few { IfOk result (λ n. n ≤ 67108864) }
 {
     if length > LENGTH_LIMIT || length == 0 {
-        Err(ManifestFault::NotBuilt)
+        Err(RowFault::Shape)
     } else {
         Ok(length)
     }

@@ -2,8 +2,8 @@
 
 ghost use Rattle.std.specs.Prelude.{◌≡◌};
 
-use crate::entry::{Entry, read_list, write_list};
-use crate::fault::ManifestFault;
+use crate::entry::{Entry, Keyed, read_list, write_list};
+use crate::fault::RowFault;
 use crate::part;
 use serde_json::{Value, json};
 use sg_base::{Item, Layout, LayoutId, MediaId, Region, Rows};
@@ -25,7 +25,8 @@ impl Entry for Item {
         json!(in alloc; {"media": self.media.0, "seconds": self.seconds})
     }
 
-    fn read(_alloc: Global, value: &Value) -> Result<Item, ManifestFault> {
+    fn read(_alloc: Global, value: &Value) -> Result<Item, RowFault> {
+        part::exactly(value, 2)?;
         let media = part::id(value, "media")?;
         let seconds = part::number(value, "seconds")?;
         Ok(Item {
@@ -52,7 +53,8 @@ impl Entry for Region {
         json!(in alloc; {"id": self.id, "items": items})
     }
 
-    fn read(alloc: Global, value: &Value) -> Result<Region, ManifestFault> {
+    fn read(alloc: Global, value: &Value) -> Result<Region, RowFault> {
+        part::exactly(value, 2)?;
         let id = part::id(value, "id")?;
         let items = read_list(alloc, part::member(value, "items")?)?;
         Ok(Region {
@@ -79,12 +81,21 @@ impl Entry for Layout {
         json!(in alloc; {"id": self.id().0, "regions": regions})
     }
 
-    fn read(alloc: Global, value: &Value) -> Result<Layout, ManifestFault> {
+    fn read(alloc: Global, value: &Value) -> Result<Layout, RowFault> {
+        part::exactly(value, 2)?;
         let id = part::id(value, "id")?;
         let regions = read_list(alloc, part::member(value, "regions")?)?;
         match Layout::new(LayoutId(id), regions) {
             Ok(layout) => Ok(layout),
-            Err(_) => Err(ManifestFault::NotBuilt),
+            Err(fault) => Err(RowFault::Layout(fault)),
         }
+    }
+}
+
+impl Keyed for Layout {
+    ghost key = { λ l. l.id.0 };
+
+    fn key(&self) -> u32 {
+        self.id().0
     }
 }

@@ -4,16 +4,18 @@ ghost use Rattle.std.specs.Prelude.{◌≡◌, ◌==◌, ◌-◌, ◌/◌, ◌%�
 ghost use Rattle.serde_json.specs.View.{view};
 ghost use Rattle.sg_base.specs.Repeat.{IsRepeat};
 ghost use Rattle.sg_rows.specs.Text.{list_of, whole, weekdays, unit_text, until_json, repeat_json};
-ghost use Rattle.sg_rows.specs.Reading.{Gives, number_at};
+ghost use Rattle.sg_rows.specs.Faults.{Gives};
+ghost use Rattle.sg_rows.specs.Parts.{number_at, nullable_at};
 ghost use Rattle.sg_rows.specs.Rows.{IsRepeatRow};
-ghost use Rattle.sg_rows.specs.Schedules.{with_weekday, days_at, unit_at, unit_of, nullable_at, repeat_at};
+ghost use Rattle.sg_rows.specs.Reading.{with_weekday, days_at, unit_at, unit_of, repeat_at, made_repeat, is_later_repeat};
 
 use crate::entry::{Entry, write_list};
-use crate::fault::ManifestFault;
+use crate::fault::RowFault;
 use crate::part;
 use serde_json::{Value, json};
 use sg_base::{Repeat, Unit};
 use std::alloc::{AllocError, Global};
+use std::marker::Model;
 
 /// The bits of the weekdays, Monday first.
 const WEEKDAY_BITS: [u8; 7] = [1, 2, 4, 8, 16, 32, 64];
@@ -30,30 +32,29 @@ fn weekday_bit(weekday: u32) -> u8
 }
 
 /// The bits of some weekdays and of a later one.
-fn with_weekday(bits: u8, weekday: u32) -> Result<u8, ManifestFault>
+fn with_weekday(bits: u8, weekday: u32) -> Result<u8, RowFault>
     requires { bits < 2 ^ 7 }
     ensures gives { Gives (λ n. n) result (with_weekday bits weekday) }
     ensures few { IfOk result (λ n. n < 2 ^ 7) }
 {
     if weekday < 1 || weekday > 7 {
-        return Err(ManifestFault::NotBuilt);
+        return Err(RowFault::Shape);
     }
     let bit = weekday_bit(weekday);
     if bits < bit {
         Ok(bits + bit)
     } else {
-        Err(ManifestFault::NotBuilt)
+        Err(RowFault::Shape)
     }
 }
 
 /// The bits of weekdays that ascend.
-fn read_days(value: &Value) -> Result<u8, ManifestFault>
+fn read_days(value: &Value) -> Result<u8, RowFault>
     ensures gives { Gives (λ n. n) result (days_at (view value.now)) }
     ensures few { IfOk result (λ n. n < 2 ^ 7) }
 {
-    let items = value.as_array().ok_or(ManifestFault::NotBuilt)?;
     let mut bits = 0;
-    for item in items {
+    for item in part::items(value)? {
         bits = with_weekday(bits, part::whole(item)?)?;
     }
     Ok(bits)
@@ -84,7 +85,7 @@ fn weekdays_of(alloc: Global, days: u8) -> Result<Vec<u32>, AllocError>
 impl Entry for u32 {
     ghost use Rattle.std.specs.Prelude.{◌^◌, ◌<◌};
     ghost use Rattle.sg_rows.specs.Text.{whole};
-    ghost use Rattle.sg_rows.specs.Reading.{number_at};
+    ghost use Rattle.sg_rows.specs.Parts.{number_at};
 
     ghost json = { whole };
 
@@ -96,7 +97,7 @@ impl Entry for u32 {
         Ok(Value::from(*self))
     }
 
-    fn read(_alloc: Global, value: &Value) -> Result<u32, ManifestFault> {
+    fn read(_alloc: Global, value: &Value) -> Result<u32, RowFault> {
         part::whole(value)
     }
 }
@@ -138,15 +139,14 @@ fn unit_of(name: &str) -> Option<Unit>
     }
 }
 
-fn read_unit(value: &Value) -> Result<Unit, ManifestFault>
+fn read_unit(value: &Value) -> Result<Unit, RowFault>
     ensures { Gives (λ u. u) result (unit_at (view value.now)) }
 {
-    let name = value.as_str().ok_or(ManifestFault::NotBuilt)?;
-    unit_of(name).ok_or(ManifestFault::NotBuilt)
+    unit_of(part::text(value)?).ok_or(RowFault::Shape)
 }
 
 /// A day number, or null.
-fn read_until(value: &Value) -> Result<Option<u32>, ManifestFault>
+fn read_until(value: &Value) -> Result<Option<u32>, RowFault>
     ensures gives { Gives (λ o. o) result (nullable_at number_at (view value.now)) }
     ensures fits { IfOk result (λ o. IfSome o (λ day. day < 2 ^ 32)) }
 {
@@ -166,33 +166,82 @@ fn until_value(until: Option<u32>) -> Value
     }
 }
 
-#[tactic(auto, unfolding(crate::specs::Schedules::repeat_at))]
-fn read_some(value: &Value) -> Result<Repeat, ManifestFault>
+/// The values of a repeat, each of its form. Contracts see them as the repeat that they would make.
+#[derive(Clone, Copy, Debug)]
+pub(crate) struct RepeatParts {
+    unit: Unit,
+    every: u32,
+    days: u8,
+    until: Option<u32>,
+}
+
+impl Model for RepeatParts {
+    ghost use Rattle.sg_base.specs.Repeat.{RepeatRow};
+
+    ghost Value = { RepeatRow };
+
+    ghost view = { λ r. record { unit = r.unit; every = r.every; days = r.days; until = r.until } };
+
+    ghost inverse = { λ r. record { unit = r.unit; every = r.every; days = r.days; until = r.until } };
+}
+
+#[tactic(auto, unfolding(crate::specs::Reading::repeat_at))]
+fn read_some(value: &Value) -> Result<RepeatParts, RowFault>
     ensures gives { Gives (λ r. r) result (repeat_at (view value.now)) }
     ensures sound { IfOk result IsRepeatRow }
-    ensures accepted { IfOk result IsRepeat }
 {
+    part::exactly(value, 4)?;
     let days = read_days(part::member(value, "days")?)?;
     let every = part::number(value, "every")?;
     let unit = read_unit(part::member(value, "unit")?)?;
     let until = read_until(part::member(value, "until")?)?;
-    match Repeat::new(unit, every, days, until) {
-        Ok(repeat) => Ok(repeat),
-        Err(_) => Err(ManifestFault::NotBuilt),
-    }
+    Ok(RepeatParts {
+        unit,
+        every,
+        days,
+        until,
+    })
 }
 
-/// How an event repeats, or null.
-pub(crate) fn read_repeat(value: &Value) -> Result<Option<Repeat>, ManifestFault>
+/// How an event repeats, or null. It is of its form, and may have a fault of its own yet.
+pub(crate) fn read_repeat(value: &Value) -> Result<Option<RepeatParts>, RowFault>
     ensures gives { Gives (λ o. o) result (nullable_at repeat_at (view value.now)) }
     ensures sound { IfOk result (λ o. IfSome o IsRepeatRow) }
-    ensures accepted { IfOk result (λ o. IfSome o IsRepeat) }
 {
     if value.is_null() {
         return Ok(None);
     }
     let repeat = read_some(value)?;
     Ok(Some(repeat))
+}
+
+/// The repeat that values make.
+pub(crate) fn made_repeat(parts: Option<RepeatParts>) -> Result<Option<Repeat>, RowFault>
+    requires { IfSome parts IsRepeatRow }
+    ensures gives { Gives (λ o. o) result (made_repeat parts) }
+    ensures sound { IfOk result (λ o. IfSome o IsRepeatRow) }
+    ensures accepted { IfOk result (λ o. IfSome o IsRepeat) }
+{
+    match parts {
+        None => Ok(None),
+        Some(r) => match Repeat::new(r.unit, r.every, r.days, r.until) {
+            Ok(repeat) => Ok(Some(repeat)),
+            Err(fault) => Err(RowFault::Repeat(fault)),
+        },
+    }
+}
+
+/// Whether a repeat is of a later version: by a weekday's place in the month.
+pub(crate) fn is_later(value: &Value) -> bool
+    ensures { result ≡ is_later_repeat (view value.now) }
+{
+    match value.get("unit") {
+        Some(unit) => match unit.as_str() {
+            Some(name) => name == "month-weekday",
+            None => false,
+        },
+        None => false,
+    }
 }
 
 pub(crate) fn write_repeat(alloc: Global, repeat: &Option<Repeat>) -> Result<Value, AllocError>

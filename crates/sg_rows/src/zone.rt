@@ -4,11 +4,12 @@ ghost use Rattle.std.specs.Prelude.{◌≡◌, IfOk, string_bytes};
 ghost use Rattle.serde_json.specs.View.{view};
 ghost use Rattle.sg_rows.specs.Text.{zone_json};
 ghost use Rattle.sg_rows.specs.Zone.{IsZone};
-ghost use Rattle.sg_rows.specs.Reading.{Gives};
-ghost use Rattle.sg_rows.specs.Schedules.{rule_at, text_at, zone_at, telling};
+ghost use Rattle.sg_rows.specs.Faults.{Gives};
+ghost use Rattle.sg_rows.specs.Parts.{text_at};
+ghost use Rattle.sg_rows.specs.Reading.{rule_at, zone_at, telling};
 ghost use Rattle.sg_calendar.specs.Zone.{zone_of};
 
-use crate::fault::ManifestFault;
+use crate::fault::RowFault;
 use crate::part;
 use serde_json::{Value, json};
 use sg_base::{Rows, ZoneRule};
@@ -16,18 +17,19 @@ use sg_calendar::Zone;
 use std::alloc::{AllocError, Global};
 
 /// The bytes of a text.
-fn text(alloc: Global, value: &Value) -> Result<Rows<u8>, ManifestFault>
+fn text(alloc: Global, value: &Value) -> Result<Rows<u8>, RowFault>
     ensures { Gives (λ t. t) result (text_at (view value.now)) }
 {
-    let text = value.as_str().ok_or(ManifestFault::NotBuilt)?;
+    let text = part::text(value)?;
     Ok(Rows::from_vec(text.as_bytes().to_vec(alloc)?))
 }
 
-fn rule(alloc: Global, value: &Value) -> Result<ZoneRule, ManifestFault>
+fn rule(alloc: Global, value: &Value) -> Result<ZoneRule, RowFault>
     ensures { Gives (λ z. z) result (rule_at (view value.now)) }
 {
+    part::exactly(value, 1)?;
     if part::has(value, "offset") {
-        let minutes = part::minutes(value, "offset")?;
+        let minutes = part::integer(value, "offset")?;
         Ok(ZoneRule::Offset(minutes))
     } else {
         let text = text(alloc, part::member(value, "posix")?)?;
@@ -36,19 +38,19 @@ fn rule(alloc: Global, value: &Value) -> Result<ZoneRule, ManifestFault>
 }
 
 /// The rule itself, where it tells a zone.
-fn telling(rule: ZoneRule) -> Result<ZoneRule, ManifestFault>
+fn telling(rule: ZoneRule) -> Result<ZoneRule, RowFault>
     ensures gives { Gives (λ z. z) result (telling (zone_of rule) rule) }
     ensures sound { IfOk result IsZone }
 {
     match Zone::read(&rule) {
         Ok(_) => Ok(rule),
-        Err(_) => Err(ManifestFault::NotBuilt),
+        Err(fault) => Err(RowFault::Zone(fault)),
     }
 }
 
 /// A rule that tells a zone.
-#[tactic(auto, unfolding(crate::specs::Schedules::zone_at))]
-pub fn read_zone(alloc: Global, value: &Value) -> Result<ZoneRule, ManifestFault>
+#[tactic(auto, unfolding(crate::specs::Reading::zone_at))]
+pub fn read_zone(alloc: Global, value: &Value) -> Result<ZoneRule, RowFault>
     ensures gives { Gives (λ z. z) result (zone_at (view value.now)) }
     ensures sound { IfOk result IsZone }
 {

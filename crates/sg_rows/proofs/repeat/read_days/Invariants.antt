@@ -1,6 +1,6 @@
 use Rattle.std.proofs.Common.{◌≡◌, ◌<◌, ◌^◌, drop}
 use Rattle.serde_json.specs.View.{items_view}
-use Rattle.sg_rows.specs.Schedules.{days_from}
+use Rattle.sg_rows.specs.Reading.{days_from}
 use Rattle.sg_rows.proofs.repeat.read_days.Given as goal
 
 abbrev pub invariant-loop-item : goal.invariant-loop-item

@@ -1,0 +1,57 @@
+-- The JSON of a valid row of an edit reads as the row.
+use Rattle.std.proofs.Common.{◌≡◌, ℕ, ◌+◌, ◌<◌, true, List, length, Result, Ok, refl, lt-ltb}
+use Rattle.std.specs.List.{AllByRecursion}
+use Rattle.serde_json.specs.Data.{string}
+use Rattle.sg_base.specs.declared.ids.GroupId.{GroupId}
+use Rattle.sg_base.specs.declared.ids.DisplayId.{DisplayId}
+use Rattle.sg_rows.specs.declared.row.Row.{Row}
+use Rattle.sg_rows.specs.declared.row.Row.TheVariants as row
+use Rattle.sg_rows.specs.declared.display.DisplayRow.{DisplayRow}
+use Rattle.sg_rows.specs.declared.scheduled.EventRow.{EventRow as ScheduledRow}
+use Rattle.sg_rows.specs.Text.{list_of}
+use Rattle.sg_rows.specs.EditRows.{IsGroup, IsDisplayId, IsDisplay, IsScheduled, IsRow, AreFew, group_id_json, group_id_at, display_id_json, display_id_at, few_at, group_json, group_at, display_json, display_at, scheduled_json, scheduled_at, kind_of, row_json, row_at}
+use Rattle.sg_rows.proofs.AgainRows.{list_again, id_again, layout_again, file_again}
+use Rattle.sg_rows.proofs.AgainSchedules.{campaign_again, daypart_again, zone_again, parts_again_in_edit, made_event_again}
+
+group_id_again : (g : GroupId) → IsGroup g → group_id_at (group_id_json g) ≡ Ok g
+unfolding group_id_at
+group_id_again g h = rw (id_again g.0 h) refl
+
+display_id_again : (d : DisplayId) → IsDisplayId d → display_id_at (display_id_json d) ≡ Ok d
+unfolding display_id_at
+display_id_again d h = rw (id_again d.0 h) refl
+
+groups_again : (gs : List GroupId) → AllByRecursion IsGroup gs → AreFew (λ g. g.0) gs → few_at group_id_at (λ g. g.0) (list_of group_id_json gs) ≡ Ok gs
+groups_again gs h few = rw (list_again group_id_json group_id_at IsGroup group_id_again gs h, few) refl
+
+displays_again : (ds : List DisplayId) → AllByRecursion IsDisplayId ds → AreFew (λ d. d.0) ds → few_at display_id_at (λ d. d.0) (list_of display_id_json ds) ≡ Ok ds
+displays_again ds h few = rw (list_again display_id_json display_id_at IsDisplayId display_id_again ds h, few) refl
+
+group_again : (g : GroupId) → IsGroup g → group_at (group_json g) ≡ Ok g
+unfolding group_at
+group_again g h = rw (id_again g.0 h) refl
+
+display_again : (d : DisplayRow) → IsDisplay d → display_at (display_json d) ≡ Ok d
+unfolding display_at
+display_again d h =
+    rw (id_again d.default.0 h.default, groups_again d.groups h.groups h.few, id_again d.id.0 h.id, h.key, zone_again d.zone h.zone) refl
+
+scheduled_again : (e : ScheduledRow) → IsScheduled e → scheduled_at (scheduled_json e) ≡ Ok e
+unfolding scheduled_at
+scheduled_again e h =
+    rw (
+      parts_again_in_edit e h.event,
+      displays_again e.displays h.displays h.few_displays,
+      groups_again e.groups h.groups h.few_groups,
+      lt-ltb 0 (length e.displays + length e.groups) h.some,
+      made_event_again e.event h.event,
+    ) refl
+
+pub row_again : (r : Row) → IsRow r → row_at (kind_of r) (row_json r) ≡ Ok r
+row_again (row.Media f) h = rw (file_again f h) refl
+row_again (row.Layout l) h = rw (layout_again l h) refl
+row_again (row.Campaign c) h = rw (campaign_again c h) refl
+row_again (row.Daypart d) h = rw (daypart_again d h) refl
+row_again (row.Group g) h = rw (group_again g h) refl
+row_again (row.Display d) h = rw (display_again d h) refl
+row_again (row.Event e) h = rw (scheduled_again e h) refl

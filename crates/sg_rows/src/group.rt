@@ -1,0 +1,117 @@
+//! Groups of displays in JSON, and lists of the ids of groups and displays.
+
+ghost use Rattle.std.specs.Prelude.{◌≡◌, map, IfOk};
+ghost use Rattle.std.specs.List.{AllByRecursion};
+ghost use Rattle.serde_json.specs.View.{view};
+ghost use Rattle.sg_rows.specs.Faults.{Gives};
+ghost use Rattle.sg_rows.specs.EditRows.{group_at, group_json, rise_from, few_at, AreFew, IsGroup};
+
+use crate::entry::{Entry, Keyed, read_list};
+use crate::fault::RowFault;
+use crate::part;
+use serde_json::{Value, json};
+use sg_base::{DisplayId, GroupId, Rows};
+use std::alloc::{AllocError, Global};
+
+/// The most groups of a display, groups of an event and displays of an event.
+const IDS_LIMIT: usize = 32;
+
+#[tactic(auto, unfolding(crate::specs::EditRows::group_id_at))]
+impl Entry for GroupId {
+    ghost use Rattle.sg_rows.specs.EditRows.{group_id_json, group_id_at, IsGroup};
+
+    ghost json = { group_id_json };
+
+    ghost at = { group_id_at };
+
+    ghost valid = { IsGroup };
+
+    fn write(&self, _alloc: Global) -> Result<Value, AllocError> {
+        Ok(Value::from(self.0))
+    }
+
+    fn read(_alloc: Global, value: &Value) -> Result<GroupId, RowFault> {
+        let id = part::whole_id(value)?;
+        Ok(GroupId(id))
+    }
+}
+
+impl Keyed for GroupId {
+    ghost key = { λ g. g.0 };
+
+    fn key(&self) -> u32 {
+        self.0
+    }
+}
+
+#[tactic(auto, unfolding(crate::specs::EditRows::display_id_at))]
+impl Entry for DisplayId {
+    ghost use Rattle.sg_rows.specs.EditRows.{display_id_json, display_id_at, IsDisplayId};
+
+    ghost json = { display_id_json };
+
+    ghost at = { display_id_at };
+
+    ghost valid = { IsDisplayId };
+
+    fn write(&self, _alloc: Global) -> Result<Value, AllocError> {
+        Ok(Value::from(self.0))
+    }
+
+    fn read(_alloc: Global, value: &Value) -> Result<DisplayId, RowFault> {
+        let id = part::whole_id(value)?;
+        Ok(DisplayId(id))
+    }
+}
+
+impl Keyed for DisplayId {
+    ghost key = { λ d. d.0 };
+
+    fn key(&self) -> u32 {
+        self.0
+    }
+}
+
+/// Whether ids ascend, from 1 on.
+fn rise<T: Keyed>(rows: &[T]) -> bool
+    ensures { result ≡ rise_from 0 (map T.key rows.now) }
+{
+    let mut last = 0;
+    for row in rows {
+        let id = row.key();
+        if id <= last {
+            return false;
+        }
+        last = id;
+    }
+    true
+}
+
+/// At most 32 ids that ascend.
+pub(crate) fn read_few<T: Keyed>(alloc: Global, value: &Value) -> Result<Rows<T>, RowFault>
+    ensures gives { Gives (λ ids. ids) result (few_at T.at T.key (view value.now)) }
+    ensures sound { IfOk result (λ ids. AllByRecursion T.valid ids) }
+    ensures few { IfOk result (AreFew T.key) }
+{
+    let ids = read_list(alloc, value)?;
+    if ids.len() > IDS_LIMIT || !rise(ids.as_slice()) {
+        return Err(RowFault::Shape);
+    }
+    Ok(Rows::from_vec(ids))
+}
+
+#[tactic(auto, unfolding(crate::specs::EditRows::group_at))]
+pub(crate) fn read_group(value: &Value) -> Result<GroupId, RowFault>
+    ensures gives { Gives (λ g. g) result (group_at (view value.now)) }
+    ensures sound { IfOk result IsGroup }
+{
+    part::exactly(value, 1)?;
+    let id = part::id(value, "id")?;
+    Ok(GroupId(id))
+}
+
+pub(crate) fn write_group(alloc: Global, group: GroupId) -> Result<Value, AllocError>
+    ensures { IfOk result (λ v. view v ≡ group_json group) }
+{
+    json!(in alloc; {"id": group.0})
+}

@@ -1,0 +1,68 @@
+//! Scheduled events in JSON: an event with the displays and groups that it is for.
+
+ghost use Rattle.std.specs.Prelude.{◌≡◌, ◌+◌, ◌<◌, length, IfOk};
+ghost use Rattle.serde_json.specs.View.{view};
+ghost use Rattle.sg_rows.specs.Faults.{Gives};
+ghost use Rattle.sg_rows.specs.EditRows.{scheduled_at, scheduled_json, IsScheduled};
+
+use crate::entry::write_list;
+use crate::event::{made, read_parts, write_target, write_when};
+use crate::fault::RowFault;
+use crate::form::Form;
+use crate::group::read_few;
+use crate::part;
+use crate::repeat::write_repeat;
+use serde_json::{Value, json};
+use sg_base::{DisplayId, Event, GroupId, Rows};
+use std::alloc::{AllocError, Global};
+
+/// An event with the displays and the groups that it is for, at least one in all, each by ascending id.
+#[derive(Debug, Drop)]
+pub struct EventRow {
+    pub event: Event,
+    /// At most 32.
+    pub displays: Rows<DisplayId>,
+    /// At most 32.
+    pub groups: Rows<GroupId>,
+}
+
+#[tactic(auto, unfolding(crate::specs::EditRows::scheduled_at))]
+pub(crate) fn read_scheduled(alloc: Global, value: &Value) -> Result<EventRow, RowFault>
+    ensures gives { Gives (λ e. e) result (scheduled_at (view value.now)) }
+    ensures sound { IfOk result IsScheduled }
+{
+    let parts = read_parts(Form::Edit, value)?;
+    let displays = read_few(alloc, part::member(value, "displays")?)?;
+    let groups = read_few(alloc, part::member(value, "groups")?)?;
+    if displays.is_empty() && groups.is_empty() {
+        return Err(RowFault::Shape);
+    }
+    let event = made(parts)?;
+    Ok(EventRow {
+        event,
+        displays,
+        groups,
+    })
+}
+
+pub(crate) fn write_scheduled(alloc: Global, row: &EventRow) -> Result<Value, AllocError>
+    ensures { IfOk result (λ v. view v ≡ scheduled_json row.now) }
+{
+    let event = row.event;
+    let displays = write_list(alloc, row.displays.as_slice())?;
+    let groups = write_list(alloc, row.groups.as_slice())?;
+    let repeat = write_repeat(alloc, event.repeat())?;
+    let target = write_target(alloc, event.target())?;
+    let when = write_when(alloc, event.when())?;
+    json!(in alloc; {
+        "displays": displays,
+        "groups": groups,
+        "id": event.id().0,
+        "order": event.order(),
+        "priority": event.priority(),
+        "repeat": repeat,
+        "share": event.share(),
+        "target": target,
+        "when": when
+    })
+}
