@@ -1,3 +1,10 @@
 pub mod SearchLemmas
+pub mod NamingLemmas
+pub mod FaultLemmas
+pub mod ListLemmas
+pub mod OrderLemmas
+pub mod JsonLemmas
+pub mod TextLemmas
 pub mod WholeAgain
-pub mod Laws
+pub mod ReadLemmas
+pub mod PlaceLemmas

@@ -1,19 +1,29 @@
 -- The JSON of a valid snapshot is plain and reads as the snapshot, so its text is of no other.
-use Rattle.std.proofs.Common.{◌≡◌, Result, Ok, refl, sym, ap, ◌∙◌, arith}
-use Rattle.std.specs.Prelude.{Some}
+use Rattle.std.proofs.Common.{◌≡◌, ℕ, ◌<◌, ◌≤◌, nat_le, true, false, List, length, Result, Ok, refl, sym, ap, ◌∙◌, map, arith, le-leb}
+use Rattle.std.specs.Prelude.{Some, None, Option}
+use Rattle.std.specs.Str.{is_utf8, bytes_eq}
+use Rattle.std.specs.List.{AllByRecursion, IsDistinct}
+use Rattle.std.specs.List.Sorted.{IsStrictlyIncreasing}
+use Rattle.serde_json.specs.Data.{Data}
 use Rattle.serde_json.specs.Read.{read}
-use Rattle.sg_rows.specs.declared.fault.ManifestFault.{ManifestFault}
+use Rattle.serde_json.specs.Written.{has_float}
+use Rattle.sg_base.proofs.DoubleLemmas.{same}
+use Rattle.sg_rows.specs.declared.kind.Kind.TheVariants.{Media, Layout, Campaign, Daypart, Event}
 use Rattle.sg_rows.specs.Rows.{IsCampaignRow, IsDaypartRow, IsEventRow, IsLayoutRow, IsListed}
 use Rattle.sg_rows.specs.Text.{layout_json, file_json, campaign_json, daypart_json, event_json}
-use Rattle.sg_rows.specs.Reading.{layout_at, file_at}
-use Rattle.sg_rows.specs.Schedules.{campaign_at, daypart_at, event_at}
-use Rattle.sg_rows.proofs.CompactSound.{Sound, Sound-unsigned, Sound-list, Sound-object, read-Sound}
+use Rattle.sg_rows.specs.Order.{sorted_by}
+use Rattle.sg_rows.specs.Reading.{layout_at, file_at, campaign_at, daypart_at, event_at}
+use Rattle.sg_rows.proofs.CompactSound.{Sound, Sound-unsigned, Sound-list, Sound-object, read-Sound, is_utf8-Sound, has_float-Sound}
 use Rattle.sg_rows.proofs.SoundRows.{id_sound, campaign_sound, daypart_sound, event_sound, file_sound, layout_sound, zone_sound}
-use Rattle.sg_rows.proofs.AgainRows.{list_again, id_again, layout_again, file_again}
+use Rattle.sg_rows.proofs.OrderLemmas.{Rises, sorted_again}
+use Rattle.sg_rows.proofs.AgainRows.{id_again, layout_again, file_again}
 use Rattle.sg_rows.proofs.AgainSchedules.{campaign_again, daypart_again, event_again, zone_again}
-use Rattle.sg_manifest.specs.Snapshot.{SnapshotRow, IsSnapshot}
+use Rattle.sg_manifest.specs.declared.fault.ManifestFault.{ManifestFault}
+use Rattle.sg_manifest.specs.Snapshot.{SnapshotRow, IsSnapshot, layout_ids, campaign_ids, daypart_ids, event_ids, file_ids}
 use Rattle.sg_manifest.specs.Text.{snapshot_json, text}
-use Rattle.sg_manifest.specs.Reading.{draft_at}
+use Rattle.sg_manifest.specs.Reading.{json_at, version_at, members_at, draft_at, ordered}
+use Rattle.sg_manifest.proofs.ListLemmas.{counted_items, list_again}
+use Rattle.sg_manifest.proofs.OrderLemmas.{rises_from_increasing, distinct_from_rises}
 
 pub snapshot_sound : (s : SnapshotRow) → IsSnapshot s → Sound 7 (snapshot_json s)
 snapshot_sound s h =
@@ -34,17 +44,57 @@ snapshot_sound s h =
       ),
     )
 
+pub json_again : (s : SnapshotRow) → IsSnapshot s → json_at (text s) ≡ Ok (snapshot_json s)
+unfolding json_at text
+json_again s h = let sound = snapshot_sound s h in rw (is_utf8-Sound sound, read-Sound refl sound) refl
+
+pub no_float : (s : SnapshotRow) (d : Data) → d ≡ snapshot_json s → IsSnapshot s → has_float d ≡ false
+no_float s d e h = rw e (has_float-Sound (snapshot_sound s h))
+
+distinct : {A : Type 0} (key : A → ℕ) (xs : List A) → IsStrictlyIncreasing (map key xs) → IsDistinct (same key) xs
+distinct key xs h = distinct_from_rises key xs (rises_from_increasing key xs h)
+
+version_again : (s : SnapshotRow) → version_at (snapshot_json s) ≡ Ok tt
+unfolding version_at
+version_again s = refl
+
+members_again : (s : SnapshotRow) → IsSnapshot s → members_at (snapshot_json s) ≡ Ok s.default
+unfolding members_at
+members_again s h = rw (id_again s.default.0 h.default) refl
+
 pub draft_again : (s : SnapshotRow) → IsSnapshot s → draft_at (snapshot_json s) ≡ Ok s
 unfolding draft_at
 draft_again s h =
     rw (
+      version_again s,
+      members_again s h,
       zone_again s.zone h.zone,
-      id_again s.default.0 h.default,
-      list_again file_json file_at IsListed file_again s.files h.rows.files,
-      list_again layout_json layout_at IsLayoutRow layout_again s.layouts h.rows.layouts,
-      list_again campaign_json campaign_at IsCampaignRow campaign_again s.campaigns h.rows.campaigns,
-      list_again daypart_json daypart_at IsDaypartRow daypart_again s.dayparts h.rows.dayparts,
-      list_again event_json event_at IsEventRow event_again s.events h.rows.events,
+      counted_items file_json s.files,
+      le-leb (length s.files) 512 h.few.files,
+      list_again file_json file_at IsListed file_again 1 Media (λ f. f.media.0) s.files h.rows.files (distinct (λ f. f.media.0) s.files h.order.files),
+      counted_items layout_json s.layouts,
+      le-leb (length s.layouts) 512 h.few.layouts,
+      list_again layout_json layout_at IsLayoutRow layout_again 2 Layout (λ l. l.id.0) s.layouts h.rows.layouts (distinct (λ l. l.id.0) s.layouts h.order.layouts),
+      counted_items campaign_json s.campaigns,
+      le-leb (length s.campaigns) 256 h.few.campaigns,
+      list_again campaign_json campaign_at IsCampaignRow campaign_again 3 Campaign (λ c. c.id.0) s.campaigns h.rows.campaigns (distinct (λ c. c.id.0) s.campaigns h.order.campaigns),
+      counted_items daypart_json s.dayparts,
+      le-leb (length s.dayparts) 64 h.few.dayparts,
+      list_again daypart_json daypart_at IsDaypartRow daypart_again 4 Daypart (λ d. d.id.0) s.dayparts h.rows.dayparts (distinct (λ d. d.id.0) s.dayparts h.order.dayparts),
+      counted_items event_json s.events,
+      le-leb (length s.events) 1024 h.few.events,
+      list_again event_json event_at IsEventRow event_again 5 Event (λ e. e.id.0) s.events h.rows.events (distinct (λ e. e.id.0) s.events h.order.events),
+    ) refl
+
+-- a valid snapshot is in order
+pub ordered_again : (s : SnapshotRow) → IsSnapshot s → ordered s ≡ s
+ordered_again s h =
+    rw (
+      sorted_again (λ l. l.id.0) s.layouts (rises_from_increasing (λ l. l.id.0) s.layouts h.order.layouts),
+      sorted_again (λ c. c.id.0) s.campaigns (rises_from_increasing (λ c. c.id.0) s.campaigns h.order.campaigns),
+      sorted_again (λ d. d.id.0) s.dayparts (rises_from_increasing (λ d. d.id.0) s.dayparts h.order.dayparts),
+      sorted_again (λ e. e.id.0) s.events (rises_from_increasing (λ e. e.id.0) s.events h.order.events),
+      sorted_again (λ f. f.media.0) s.files (rises_from_increasing (λ f. f.media.0) s.files h.order.files),
     ) refl
 
 ok_same : {A : Type 0} (r : Result A ManifestFault) (x y : A) → r ≡ Ok x → r ≡ Ok y → x ≡ y

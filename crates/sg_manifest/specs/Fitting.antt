@@ -1,16 +1,22 @@
--- For private clauses: what is known of rows that were read, and what is left to look at.
+-- For private clauses: what is known of rows that were read.
+use Rattle.std.specs.List.{IsDistinct}
+use Rattle.sg_rows.specs.Order.{same_number}
 use Rattle.sg_rows.specs.Zone.{IsZone}
 use Rattle.sg_rows.specs.Rows.{IsId}
-use Rattle.sg_manifest.specs.Snapshot.{SnapshotRow, HasValidRows, IsInOrder, HasAllNamed, IsWithinLimits}
+use Rattle.sg_manifest.specs.Snapshot.{SnapshotRow, HasValidRows, IsWithinLimits}
 
--- each row is valid by itself
+-- ids are distinct in each list
+pub record IsApart (s : SnapshotRow) : Type 0 where
+  pub layouts : IsDistinct (same_number (λ l. l.id.0)) s.layouts
+  pub campaigns : IsDistinct (same_number (λ c. c.id.0)) s.campaigns
+  pub dayparts : IsDistinct (same_number (λ d. d.id.0)) s.dayparts
+  pub events : IsDistinct (same_number (λ e. e.id.0)) s.events
+  pub files : IsDistinct (same_number (λ f. f.media.0)) s.files
+
+-- each row is valid by itself, and no list has too many or one id twice
 pub record IsDraft (s : SnapshotRow) : Type 0 where
   pub zone : IsZone s.zone
   pub default : IsId s.default.0
   pub rows : HasValidRows s
-
--- the rows fit together
-pub record FitsTogether (s : SnapshotRow) : Type 0 where
   pub few : IsWithinLimits s
-  pub order : IsInOrder s
-  pub named : HasAllNamed s
+  pub apart : IsApart s

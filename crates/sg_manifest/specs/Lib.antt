@@ -1,7 +1,7 @@
 pub mod Snapshot
 pub mod Text
 pub mod Sample
-pub mod Answer
+pub mod Faults
 pub mod Reading
 pub mod Fitting
 pub mod Place

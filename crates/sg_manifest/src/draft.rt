@@ -2,52 +2,85 @@
 
 ghost use Rattle.std.specs.Prelude.{IfOk, codes};
 ghost use Rattle.serde_json.specs.View.{view};
-ghost use Rattle.sg_rows.specs.Reading.{Gives, member_at};
-ghost use Rattle.sg_manifest.specs.Reading.{version_at};
+ghost use Rattle.sg_rows.specs.Faults.{Gives as RowGives};
+ghost use Rattle.sg_rows.specs.Parts.{member_at};
+ghost use Rattle.sg_rows.specs.Reading.{zone_at};
+ghost use Rattle.sg_rows.specs.Rows.{IsId};
+ghost use Rattle.sg_rows.specs.Zone.{IsZone};
+ghost use Rattle.sg_manifest.specs.Faults.{Gives};
+ghost use Rattle.sg_manifest.specs.Reading.{version_at, members_at};
 
+use crate::fault::ManifestFault;
+use crate::lists::{CAMPAIGNS, DAYPARTS, EVENTS, FILES, LAYOUTS, read_rows};
 use crate::snapshot::Draft;
 use serde_json::Value;
-use sg_base::{LayoutId, Rows};
-use sg_rows::{ManifestFault, part, read_list, read_zone};
+use sg_base::{LayoutId, Rows, ZoneRule};
+use sg_rows::{RowFault, part, read_zone};
 use std::alloc::Global;
+
+/// The version of the text, which is 1.
+#[tactic(auto, unfolding(crate::specs::Reading::version_at))]
+fn version(value: &Value) -> Result<(), ManifestFault>
+    ensures { Gives (λ one. one) result (version_at (view value.now)) }
+{
+    let version = part::number(value, "version")?;
+    if version == 1 {
+        Ok(())
+    } else {
+        Err(ManifestFault::Version(version))
+    }
+}
+
+/// The eight members, each of its JSON type. The answer is the default layout.
+#[tactic(auto, unfolding(crate::specs::Reading::members_at))]
+fn members(value: &Value) -> Result<LayoutId, RowFault>
+    ensures gives { RowGives (λ l. l) result (members_at (view value.now)) }
+    ensures sound { IfOk result (λ l. IsId l.0) }
+{
+    part::exactly(value, 8)?;
+    let default = part::id(value, "default")?;
+    part::items(part::member(value, "campaigns")?)?;
+    part::items(part::member(value, "dayparts")?)?;
+    part::items(part::member(value, "events")?)?;
+    part::items(part::member(value, "files")?)?;
+    part::items(part::member(value, "layouts")?)?;
+    part::member(value, "zone")?;
+    Ok(LayoutId(default))
+}
+
+fn zone(alloc: Global, value: &Value) -> Result<ZoneRule, RowFault>
+    ensures gives { RowGives (λ z. z) result (member_at zone_at (codes "zone") (view value.now)) }
+    ensures sound { IfOk result IsZone }
+{
+    read_zone(alloc, part::member(value, "zone")?)
+}
 
 impl Draft {
     ghost use Rattle.sg_manifest.specs.Reading.{draft_at};
     ghost use Rattle.sg_manifest.specs.Fitting.{IsDraft};
 
-    /// The rows, each by itself valid.
+    /// The rows in the order in which they stand, each by itself valid, and ids distinct.
     #[tactic(auto, unfolding(crate::specs::Reading::draft_at))]
     pub(crate) fn read(alloc: Global, value: &Value) -> Result<Draft, ManifestFault>
         ensures gives { Gives (λ s. s) result (draft_at (view value.now)) }
         ensures sound { IfOk result IsDraft }
     {
         version(value)?;
-        let zone = read_zone(alloc, part::member(value, "zone")?)?;
-        let default = part::id(value, "default")?;
-        let files = read_list(alloc, part::member(value, "files")?)?;
-        let layouts = read_list(alloc, part::member(value, "layouts")?)?;
-        let campaigns = read_list(alloc, part::member(value, "campaigns")?)?;
-        let dayparts = read_list(alloc, part::member(value, "dayparts")?)?;
-        let events = read_list(alloc, part::member(value, "events")?)?;
+        let default = members(value)?;
+        let zone = zone(alloc, value)?;
+        let files = read_rows(alloc, value, "files", &FILES)?;
+        let layouts = read_rows(alloc, value, "layouts", &LAYOUTS)?;
+        let campaigns = read_rows(alloc, value, "campaigns", &CAMPAIGNS)?;
+        let dayparts = read_rows(alloc, value, "dayparts", &DAYPARTS)?;
+        let events = read_rows(alloc, value, "events", &EVENTS)?;
         Ok(Draft {
             zone,
-            default: LayoutId(default),
+            default,
             layouts: Rows::from_vec(layouts),
             campaigns: Rows::from_vec(campaigns),
             dayparts: Rows::from_vec(dayparts),
             events: Rows::from_vec(events),
             files: Rows::from_vec(files),
         })
-    }
-}
-
-/// The version of the text, which is 1.
-fn version(value: &Value) -> Result<(), ManifestFault>
-    ensures { Gives (λ v. v) result (member_at version_at (codes "version") (view value.now)) }
-{
-    if part::number(value, "version")? == 1 {
-        Ok(())
-    } else {
-        Err(ManifestFault::NotBuilt)
     }
 }

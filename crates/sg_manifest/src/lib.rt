@@ -2,17 +2,26 @@
 //!
 //! A [`Snapshot`] is always valid: each row is accepted by its constructor, ids are distinct and ascend, and
 //! what is named is there. Contracts see it as the record `SnapshotRow` of `specs/Snapshot.antt`, where
-//! validity stands. Its rows are those of sg_rows. Its text is defined in `specs/Text.antt`; [`read`] takes the
-//! texts of all valid snapshots.
+//! validity stands. Its rows are those of sg_rows. Its text is defined in `specs/Text.antt`, and [`write`] makes it.
+//! [`read`] gives the snapshot whose text some bytes are, or the first fault of the bytes: `manifest_at` of
+//! `specs/Reading.antt` has the checks in their order.
 #![tactic(auto)]
 
+pub use fault::ManifestFault;
 pub use place::place_among;
 pub use reading::{one_text, read};
-pub use sg_rows::ManifestFault;
 pub use snapshot::Snapshot;
+pub use text::write;
 
+#[cfg(test)]
+mod bounds;
 mod draft;
-mod fitting;
+mod fault;
+#[cfg(test)]
+mod hostile;
+mod lists;
+mod naming;
+mod order;
 mod place;
 mod reading;
 mod snapshot;

@@ -1,73 +1,115 @@
 //! From bytes to a snapshot.
 
-ghost use Rattle.std.specs.Prelude.{◌≡◌, ◌<◌, ◌≤◌, length, Err, IfOk};
+ghost use Rattle.std.specs.Prelude.{◌≡◌, ◌≤◌, nat_le, length, IfOk, OnOk, Ok, None};
 ghost use Rattle.serde_json.specs.View.{view};
 ghost use Rattle.sg_manifest.specs.Snapshot.{SnapshotRow, IsSnapshot};
-ghost use Rattle.sg_manifest.specs.Text.{text, snapshot_json};
-ghost use Rattle.sg_manifest.specs.Answer.{Reads};
-ghost use Rattle.sg_rows.specs.Reading.{Gives};
-ghost use Rattle.sg_manifest.specs.Reading.{parsed};
-ghost use Rattle.sg_rows.specs.declared.fault.ManifestFault.TheVariants.{NotBuilt};
+ghost use Rattle.sg_manifest.specs.Text.{text};
+ghost use Rattle.sg_manifest.specs.Faults.{Gives};
+ghost use Rattle.sg_manifest.specs.Fitting.{IsDraft};
+ghost use Rattle.sg_manifest.specs.Reading.{json_at, rows_of, none_of, dangling, canonical, manifest_at};
+ghost use Rattle.sg_rows.specs.Faults.{needs};
+ghost use Rattle.sg_rows.specs.declared.kind.LimitName.TheVariants.{Text};
+ghost use Rattle.sg_manifest.specs.declared.fault.ManifestFault.TheVariants.{Limit};
 
-use crate::fitting::fit;
+use crate::fault::ManifestFault;
+use crate::naming::dangling;
 use crate::snapshot::{Draft, Snapshot};
-use crate::text::is_text;
+use crate::text::{first_difference, write};
 use serde_json::Value;
-use sg_rows::ManifestFault;
+use sg_rows::LimitName;
 use std::alloc::Global;
 
 /// The most bytes of a manifest's text.
 const TEXT_LIMIT: usize = 1_048_576;
 
 /// The JSON of bytes.
-#[tactic(auto, unfolding(crate::specs::Reading::parsed))]
+#[tactic(auto, unfolding(crate::specs::Reading::json_at))]
 fn parse(alloc: Global, bytes: &[u8]) -> Result<Value, ManifestFault>
-    ensures { Gives view result (parsed bytes.now) }
+    ensures { Gives view result (json_at bytes.now) }
 {
     match Value::from_slice(alloc, bytes) {
         Ok(value) => Ok(value),
         Err(error) => if error.is_memory() {
             Err(ManifestFault::Memory)
         } else {
-            Err(ManifestFault::NotBuilt)
+            Err(ManifestFault::NotJson)
         },
     }
 }
 
-/// The valid snapshot that JSON says, in whatever order its members stand.
-fn snapshot_of(alloc: Global, value: &Value) -> Result<Snapshot, ManifestFault>
-    ensures only { (s : SnapshotRow) → IsSnapshot s → view value.now ≡ snapshot_json s → Reads result s }
+/// The rows that bytes say. The parsed JSON is dropped here.
+#[tactic(auto, unfolding(crate::specs::Reading::rows_of))]
+fn rows(alloc: Global, bytes: &[u8]) -> Result<Draft, ManifestFault>
+    ensures gives { Gives (λ s. s) result (rows_of bytes.now) }
+    ensures sound { IfOk result IsDraft }
 {
-    let draft = Draft::read(alloc, value)?;
-    if fit(alloc, &draft)? {
-        Ok(Snapshot::new(draft))
-    } else {
-        Err(ManifestFault::NotBuilt)
+    let value = parse(alloc, bytes)?;
+    Draft::read(alloc, &value)
+}
+
+/// The snapshot, where the bytes are its text.
+#[tactic(auto, using(crate::proofs::ReadLemmas::canonical_same, crate::proofs::ReadLemmas::canonical_other))]
+fn compared(alloc: Global, snapshot: Snapshot, bytes: &[u8]) -> Result<Snapshot, ManifestFault>
+    ensures gives { Gives (λ s. s) result (canonical bytes.now snapshot) }
+    ensures same { IfOk result (λ s. IsSnapshot s × (bytes.now ≡ text s)) }
+{
+    let text = write(alloc, &snapshot)?;
+    match first_difference(bytes, text.as_slice()) {
+        None => Ok(snapshot),
+        Some(place) => Err(ManifestFault::NotCanonical(place as u64)),
     }
 }
 
-/// The snapshot whose canonical text the bytes are. Any other bytes, and more than 1,048,576, are `NotBuilt`. The
-/// bytes are parsed once, and compared with the text written again.
-pub fn read(alloc: Global, bytes: &[u8]) -> Result<Snapshot, ManifestFault>
-    // What is read is the snapshot whose text the bytes are. That it is valid is a fact of its type, too.
-    ensures found { IfOk result (λ s. IsSnapshot s × (bytes.now ≡ text s)) }
-    // The text of each valid snapshot is read, unless memory runs out.
-    ensures only { (s : SnapshotRow) → IsSnapshot s → length bytes.now ≤ 1048576
-        → bytes.now ≡ text s → Reads result s }
-    ensures long { 1048576 < length bytes.now → result ≡ Err NotBuilt }
+/// Nothing that rows name is missing.
+#[tactic(auto, using(crate::proofs::NamingLemmas::own_fault))]
+fn nothing_missing(alloc: Global, draft: &Draft) -> Result<(), ManifestFault>
+    ensures gives { Gives (λ one. one) result (none_of (dangling draft.now)) }
+    ensures none { OnOk result (dangling draft.now ≡ None) }
+{
+    match dangling(alloc, draft)? {
+        Some(fault) => Err(fault),
+        None => Ok(()),
+    }
+}
+
+/// The text isn't too long.
+fn short(bytes: &[u8]) -> Result<(), ManifestFault>
+    ensures gives { Gives (λ one. one) result (needs (nat_le (length bytes.now) 1048576) (Limit Text (length bytes.now))) }
+    ensures few { OnOk result (length bytes.now ≤ 1048576) }
 {
     if bytes.len() > TEXT_LIMIT {
-        return Err(ManifestFault::NotBuilt);
-    }
-    let snapshot = {
-        let value = parse(alloc, bytes)?;
-        snapshot_of(alloc, &value)?
-    };
-    if is_text(alloc, &snapshot, bytes)? {
-        Ok(snapshot)
+        Err(ManifestFault::Limit {
+            name: LimitName::Text,
+            count: bytes.len() as u64,
+        })
     } else {
-        Err(ManifestFault::NotBuilt)
+        Ok(())
     }
+}
+
+/// The snapshot that bytes say, or their first fault.
+#[tactic(auto, unfolding(crate::specs::Reading::manifest_at))]
+fn checked(alloc: Global, bytes: &[u8]) -> Result<Snapshot, ManifestFault>
+    ensures exact { Gives (λ s. s) result (manifest_at bytes.now) }
+    ensures found { IfOk result (λ s. IsSnapshot s × (bytes.now ≡ text s) × (length bytes.now ≤ 1048576)) }
+{
+    let draft = rows(alloc, bytes)?;
+    nothing_missing(alloc, &draft)?;
+    short(bytes)?;
+    compared(alloc, Snapshot::new(draft.ordered()), bytes)
+}
+
+/// The snapshot whose canonical text the bytes are. Other bytes give their first fault, in the order of
+/// [`ManifestFault`]. The bytes are parsed once, and compared once with the text written again.
+pub fn read(alloc: Global, bytes: &[u8]) -> Result<Snapshot, ManifestFault>
+    // Which snapshot, or which fault with all its fields. A row's fault inside is never want of memory.
+    ensures exact { Gives (λ s. s) result (manifest_at bytes.now) }
+    // What is read is the valid snapshot whose text the bytes are. That it is valid is a fact of its type, too.
+    ensures found { IfOk result (λ s. IsSnapshot s × (bytes.now ≡ text s) × (length bytes.now ≤ 1048576)) }
+    // The text of each valid snapshot is read, unless memory runs out.
+    ensures only { (s : SnapshotRow) → IsSnapshot s → length bytes.now ≤ 1048576 → bytes.now ≡ text s → Gives (λ t. t) result (Ok s) }
+{
+    checked(alloc, bytes)
 }
 
 /// No two valid snapshots have one text. It does nothing when it runs; its clause is the law.

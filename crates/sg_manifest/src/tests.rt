@@ -1,99 +1,26 @@
-//! Manifests that are read, and those that are refused.
+//! Manifests that are read, and a few that are refused.
 
-use crate::{ManifestFault, place_among, read};
+use crate::{ManifestFault, place_among, read, write};
 use sg_base::{CampaignId, DaypartId, LayoutId, Target, Unit, When, Window, ZoneRule};
+use sg_rows::{Kind, LimitName};
 use std::alloc::{AllocError, Global};
-use std::process::Abort;
 use std::test::Fail;
 
 /// One layout of one region, which shows one file.
-const PLAIN: &str =
+pub(crate) const PLAIN: &str =
     r#"{"campaigns":[],"dayparts":[],"default":1,"events":[],"files":[{"id":1,"length":3,"md5":"900150983cd24fb0d6963f7d28e17f72"}],"layouts":[{"id":1,"regions":[{"id":1,"items":[{"media":1,"seconds":10}]}]}],"version":1,"zone":{"offset":0}}"#;
 
-/// What stands in the plain manifest, and what stands there in its place.
-const EDITS: [(&str, &str); 26] = [
-    ("{\"campaigns\"", "{"),
-    ("{\"campaigns\"", "{ \"campaigns\""),
-    ("\"version\":1", "\"version\":3"),
-    ("\"version\":1", "\"version\":1.0"),
-    ("\"version\":1,", ""),
-    ("\"default\":1", "\"default\":2"),
-    ("\"default\":1", "\"default\":0"),
-    ("\"default\":1", "\"default\":1,\"default\":1"),
-    ("\"default\":1", "\"default\":01"),
-    ("\"default\":1", "\"default\":1e0"),
-    ("\"default\":1", "\"default\":4294967297"),
-    ("\"media\":1", "\"media\":2"),
-    ("\"seconds\":10", "\"seconds\":0"),
-    ("\"seconds\":10", "\"seconds\":3601"),
-    ("\"seconds\":10", "\"seconds\":10,\"shade\":1"),
-    ("\"offset\":0", "\"offset\":841"),
-    ("\"offset\":0", "\"offset\":-841"),
-    ("\"offset\":0", "\"offset\":-0"),
-    ("\"offset\":0", "\"posix\":\"hello\""),
-    ("\"offset\":0", "\"posix\":\"\""),
-    ("900150983cd2", "900150983CD2"),
-    ("\"length\":3", "\"length\":0"),
-    ("\"length\":3", "\"length\":67108865"),
-    ("\"events\":[]", "\"events\":[1]"),
-    (
-        "\"campaigns\":[]",
-        "\"campaigns\":[{\"id\":1,\"layouts\":[]}]",
-    ),
-    (
-        "\"campaigns\":[]",
-        "\"campaigns\":[{\"id\":1,\"layouts\":[2]}]",
-    ),
-];
-
 /// Two layouts, of which one has two regions; a campaign, a daypart and three events; a zone that changes its clocks.
-const BUSY: &str =
+pub(crate) const BUSY: &str =
     r#"{"campaigns":[{"id":4,"layouts":[1,2,1]}],"dayparts":[{"end":0,"exceptions":[{"day":6,"end":75600,"start":36000}],"id":9,"start":28800}],"default":1,"events":[{"id":1,"order":0,"priority":65535,"repeat":null,"share":0,"target":{"layout":2},"when":{"always":true}},{"id":2,"order":3,"priority":0,"repeat":{"days":[1,5,7],"every":2,"unit":"week","until":19800},"share":0,"target":{"campaign":4},"when":{"date":19723,"daypart":9}},{"id":3,"order":1,"priority":0,"repeat":{"days":[],"every":1,"unit":"hour","until":null},"share":600,"target":{"layout":1},"when":{"from":1704067200,"to":1704070800}}],"files":[{"id":7,"length":3,"md5":"900150983cd24fb0d6963f7d28e17f72"}],"layouts":[{"id":1,"regions":[{"id":2,"items":[{"media":7,"seconds":10},{"media":7,"seconds":20}]},{"id":1,"items":[{"media":7,"seconds":5}]}]},{"id":2,"regions":[{"id":1,"items":[{"media":7,"seconds":3600}]}]}],"version":1,"zone":{"posix":"CET-1CEST,M3.5.0,M10.5.0/3"}}"#;
 
-/// What stands in the busy manifest, and what stands there in its place: each is refused.
-const BUSY_EDITS: [(&str, &str); 29] = [
-    ("\"priority\":65535", "\"priority\":65536"),
-    ("\"order\":3", "\"order\":65536"),
-    ("\"share\":600", "\"share\":3601"),
-    (
-        "\"share\":0,\"target\":{\"campaign\":4}",
-        "\"share\":1,\"target\":{\"campaign\":4}",
-    ),
-    ("\"to\":1704070800", "\"to\":1704067200"),
-    ("\"to\":1704070800", "\"to\":4102444801"),
-    ("\"date\":19723", "\"date\":47482"),
-    ("\"until\":19800", "\"until\":19722"),
-    ("\"until\":19800", "\"until\":47482"),
-    ("\"until\":null", "\"until\":19722"),
-    ("\"days\":[1,5,7]", "\"days\":[1,7,5]"),
-    ("\"days\":[1,5,7]", "\"days\":[1,1,5]"),
-    ("\"days\":[1,5,7]", "\"days\":[]"),
-    ("\"days\":[1,5,7]", "\"days\":[1,8]"),
-    ("\"days\":[1,5,7]", "\"days\":[0,1]"),
-    ("\"days\":[]", "\"days\":[1]"),
-    ("\"every\":2", "\"every\":1001"),
-    ("\"unit\":\"week\"", "\"unit\":\"weeks\""),
-    ("\"unit\":\"week\"", "\"unit\":\"hour\""),
-    ("\"day\":6", "\"day\":8"),
-    ("\"day\":6", "\"day\":262"),
-    (
-        "\"exceptions\":[",
-        "\"exceptions\":[{\"day\":6,\"end\":1,\"start\":0},",
-    ),
-    (
-        "\"exceptions\":[",
-        "\"exceptions\":[{\"day\":7,\"end\":1,\"start\":0},",
-    ),
-    ("\"start\":28800", "\"start\":86400"),
-    ("{\"layout\":2}", "{\"layout\":3}"),
-    ("{\"campaign\":4}", "{\"campaign\":5}"),
-    ("\"daypart\":9", "\"daypart\":8"),
-    ("\"layouts\":[1,2,1]", "\"layouts\":[1,3,1]"),
-    ("\"repeat\":null", "\"repeat\":{}"),
-];
-
 /// What stands in the busy manifest, and what may stand there too.
-const GOOD_EDITS: [(&str, &str); 9] = [
+const GOOD_EDITS: [(&str, &str); 14] = [
+    ("\"length\":3", "\"length\":1"),
+    ("\"length\":3", "\"length\":67108864"),
+    ("\"order\":3", "\"order\":65535"),
+    ("\"to\":1704070800", "\"to\":4102444800"),
+    ("\"start\":28800", "\"start\":86399"),
     ("\"priority\":65535", "\"priority\":0"),
     ("\"share\":600", "\"share\":3600"),
     ("\"until\":19800", "\"until\":19723"),
@@ -112,7 +39,7 @@ const GOOD_EDITS: [(&str, &str); 9] = [
 ];
 
 /// The text with the first occurrence of a part replaced.
-fn edited(alloc: Global, text: &str, old: &str, new: &str) -> Result<String, Fail> {
+pub(crate) fn edited(alloc: Global, text: &str, old: &str, new: &str) -> Result<String, Fail> {
     let (before, after) = text.split_once(old).ok_or("no such part")?;
     Ok(format!(in alloc; "{before}{new}{after}")?)
 }
@@ -176,35 +103,6 @@ fn event_fields(rt: HostRuntime) -> Result<(), Fail> {
     Ok(())
 }
 
-/// Sees that bytes are no manifest.
-fn refuse(rt: &impl Abort, alloc: Global, bytes: &[u8]) {
-    assert_eq!(rt; read(alloc, bytes).err(), Some(ManifestFault::NotBuilt));
-}
-
-/// Sees that a text is no manifest after any of the edits.
-fn refuse_edited(
-    rt: &impl Abort,
-    alloc: Global,
-    text: &str,
-    edits: &[(&str, &str)],
-) -> Result<(), Fail> {
-    for (old, new) in edits {
-        let other = edited(alloc, text, old, new)?;
-        refuse(rt, alloc, other.as_bytes());
-    }
-    Ok(())
-}
-
-#[test]
-fn refused_edits(rt: HostRuntime) -> Result<(), Fail> {
-    refuse_edited(&rt, rt.alloc(), PLAIN, EDITS.as_slice())
-}
-
-#[test]
-fn refused_busy_edits(rt: HostRuntime) -> Result<(), Fail> {
-    refuse_edited(&rt, rt.alloc(), BUSY, BUSY_EDITS.as_slice())
-}
-
 #[test]
 fn good_busy_edits(rt: HostRuntime) -> Result<(), Fail> {
     for (old, new) in &GOOD_EDITS {
@@ -213,14 +111,6 @@ fn good_busy_edits(rt: HostRuntime) -> Result<(), Fail> {
         assert_eq!(rt; snapshot.events().len(), 3, "{new}");
     }
     Ok(())
-}
-
-#[test]
-fn refused_bytes(rt: HostRuntime) {
-    refuse(&rt, rt.alloc(), b"");
-    refuse(&rt, rt.alloc(), b"{");
-    refuse(&rt, rt.alloc(), b"null");
-    refuse(&rt, rt.alloc(), b"\xff");
 }
 
 /// A manifest whose layouts and files have these ids.
@@ -247,25 +137,29 @@ fn numbered(alloc: Global, ids: &[u32]) -> Result<String, Fail> {
     )?)
 }
 
-/// How many layouts are read of a manifest whose layouts and files have these ids.
-fn layouts_read(alloc: Global, ids: &[u32]) -> Result<Option<usize>, Fail> {
+/// How many layouts are read of a manifest whose layouts and files have these ids, or its fault.
+fn layouts_read(alloc: Global, ids: &[u32]) -> Result<Result<usize, ManifestFault>, Fail> {
     let text = numbered(alloc, ids)?;
-    Ok(
-        read(alloc, text.as_bytes())
-            .ok()
-            .map(|snapshot| snapshot.layouts().len()),
-    )
+    Ok(read(alloc, text.as_bytes()).map(|snapshot| snapshot.layouts().len()))
 }
 
 #[test]
 fn order_of_lists(rt: HostRuntime) -> Result<(), Fail> {
-    assert_eq!(rt; layouts_read(rt.alloc(), &[1, 2])?, Some(2));
+    assert_eq!(rt; layouts_read(rt.alloc(), &[1, 2])?, Ok(2));
     assert_eq!(rt;
         layouts_read(rt.alloc(), &[4_294_967_294, 4_294_967_295])?,
-        Some(2)
+        Ok(2)
     );
-    assert_eq!(rt; layouts_read(rt.alloc(), &[2, 1])?, None);
-    assert_eq!(rt; layouts_read(rt.alloc(), &[5, 5])?, None);
+    // The files stand first: byte 69 is the first one's id.
+    assert_eq!(rt;
+        layouts_read(rt.alloc(), &[2, 1])?,
+        Err(ManifestFault::NotCanonical(69))
+    );
+    let double = ManifestFault::Double {
+        kind: Kind::Media,
+        id: 5,
+    };
+    assert_eq!(rt; layouts_read(rt.alloc(), &[5, 5])?, Err(double));
     Ok(())
 }
 
@@ -281,9 +175,52 @@ fn first_ids(alloc: Global, count: u32) -> Result<Vec<u32>, AllocError> {
 #[test]
 fn most_layouts(rt: HostRuntime) -> Result<(), Fail> {
     let most = first_ids(rt.alloc(), 512)?;
-    assert_eq!(rt; layouts_read(rt.alloc(), most.as_slice())?, Some(512));
+    assert_eq!(rt; layouts_read(rt.alloc(), most.as_slice())?, Ok(512));
     let more = first_ids(rt.alloc(), 513)?;
-    assert_eq!(rt; layouts_read(rt.alloc(), more.as_slice())?, None);
+    let limit = ManifestFault::Limit {
+        name: LimitName::Files,
+        count: 513,
+    };
+    assert_eq!(rt; layouts_read(rt.alloc(), more.as_slice())?, Err(limit));
+    Ok(())
+}
+
+#[test]
+fn text_again(rt: HostRuntime) -> Result<(), Fail> {
+    for text in [PLAIN, BUSY] {
+        let snapshot = read(rt.alloc(), text.as_bytes())?;
+        assert_eq!(rt; write(rt.alloc(), &snapshot)?.as_slice(), text.as_bytes());
+    }
+    Ok(())
+}
+
+/// The name of the fault of the plain manifest with an edit.
+fn name_after(alloc: Global, old: &str, new: &str) -> Result<&'static str, Fail> {
+    let text = edited(alloc, PLAIN, old, new)?;
+    match read(alloc, text.as_bytes()) {
+        Ok(_) => Ok("none"),
+        Err(fault) => Ok(fault.name()),
+    }
+}
+
+#[test]
+fn names(rt: HostRuntime) -> Result<(), Fail> {
+    let alloc = rt.alloc();
+    assert_eq!(rt; name_after(alloc, "\"id\":1", "\"id\":1")?, "none");
+    assert_eq!(rt; name_after(alloc, "{\"campaigns\"", "{")?, "NotJson");
+    assert_eq!(rt;
+        name_after(alloc, "\"version\":1", "\"version\":3")?,
+        "Version"
+    );
+    assert_eq!(rt; name_after(alloc, "{", "{ ")?, "NotCanonical");
+    assert_eq!(rt;
+        name_after(alloc, "\"default\":1", "\"default\":2")?,
+        "Dangling"
+    );
+    assert_eq!(rt;
+        name_after(alloc, "\"seconds\":10", "\"seconds\":0")?,
+        "BadField"
+    );
     Ok(())
 }
 

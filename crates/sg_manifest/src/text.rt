@@ -1,9 +1,10 @@
 //! The canonical text of a snapshot.
 
-ghost use Rattle.std.specs.Prelude.{◌≡◌, ◌↔◌, IsTrue, IfOk, string_bytes};
+ghost use Rattle.std.specs.Prelude.{◌≡◌, ◌↔◌, IfOk, IfSome, IsNone};
 ghost use Rattle.serde_json.specs.View.{view};
 ghost use Rattle.sg_manifest.specs.Snapshot.{IsSnapshot};
 ghost use Rattle.sg_manifest.specs.Text.{text, snapshot_json};
+ghost use Rattle.sg_manifest.specs.Reading.{common};
 
 use crate::snapshot::Snapshot;
 use serde_json::{Value, json};
@@ -33,16 +34,37 @@ fn value_of(alloc: Global, snapshot: &Snapshot) -> Result<Value, AllocError>
     })
 }
 
-/// The text of a snapshot.
-fn write(alloc: Global, snapshot: &Snapshot) -> Result<String, AllocError>
-    ensures { IfOk result (λ t. string_bytes t ≡ text snapshot.now) }
+/// The canonical text of a snapshot, in UTF-8.
+pub fn write(alloc: Global, snapshot: &Snapshot) -> Result<Vec<u8>, AllocError>
+    ensures { IfOk result (λ t. t.items ≡ text snapshot.now) }
 {
-    value_of(alloc, snapshot)?.to_string(alloc)
+    Ok(value_of(alloc, snapshot)?.to_string(alloc)?.into_bytes())
 }
 
-/// Whether bytes are the text of a snapshot.
-pub(crate) fn is_text(alloc: Global, snapshot: &Snapshot, bytes: &[u8]) -> Result<bool, AllocError>
-    ensures { IfOk result (λ b. IsTrue b ↔ (bytes.now ≡ text snapshot.now)) }
+/// How many first bytes two texts have in common.
+#[tactic(auto, using(crate::proofs::TextLemmas::common_over, crate::proofs::TextLemmas::common_stop, crate::proofs::TextLemmas::common_next))]
+fn common_length(one: &[u8], other: &[u8]) -> usize
+    ensures { result ≡ common one.now other.now }
 {
-    Ok(write(alloc, snapshot)?.as_bytes() == bytes)
+    for (place, byte) in one.iter().enumerate() {
+        if place >= other.len() {
+            return place;
+        }
+        if *byte != other[place] {
+            return place;
+        }
+    }
+    one.len()
+}
+
+/// The place of the first byte in which two texts differ, or the shorter length; nothing where they are the same.
+pub(crate) fn first_difference(one: &[u8], other: &[u8]) -> Option<usize>
+    ensures same { IsNone result ↔ (one.now ≡ other.now) }
+    ensures place { IfSome result (λ n. n ≡ common one.now other.now) }
+{
+    if one == other {
+        None
+    } else {
+        Some(common_length(one, other))
+    }
 }

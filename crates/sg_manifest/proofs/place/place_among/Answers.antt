@@ -1,5 +1,5 @@
 -- What a binary search answers is a place of the id, or that there is none.
-use Rattle.sg_manifest.proofs.SearchLemmas.{place_searched}
+use Rattle.sg_manifest.proofs.PlaceLemmas.{place_searched}
 use Rattle.sg_manifest.proofs.place.place_among.Goals as goal
 
 pub returns : goal.returns
