@@ -1,5 +1,8 @@
 -- From the parts of a preview to the whole.
-use Rattle.std.proofs.Common.{◌≡◌, ℕ, ◌<◌, ◌≤◌, List, [], ◌∷◌, ◌++◌, length, take, get_or, Contains, ◌⊎◌, inl, inr, Result, Ok, Err, MatchResult, zero, suc, refl, sym, lit<, arith}
+use Rattle.std.proofs.Common.{◌≡◌, ℕ, ◌<◌, ◌≤◌, true, List, [], ◌∷◌, ◌++◌, length, take, get_or, Contains, ◌⊎◌, inl, inr, Result, Ok, Err, MatchResult, zero, suc, refl, sym, lit<, arith}
+use Rattle.sg_manifest.specs.declared.fault.ManifestFault.{ManifestFault}
+use Rattle.sg_manifest.specs.declared.fault.ManifestFault.TheVariants.{Memory as OutOfMemory}
+use Rattle.sg_manifest.specs.Faults.{has_cause}
 use Rattle.sg_manifest.specs.Snapshot.{SnapshotRow}
 use Rattle.signage.specs.declared.stop.Stop.{Stop}
 use Rattle.signage.specs.declared.stop.Stop.TheVariants.{Usage, TooLong, NoManifest, Read, Memory}
@@ -9,6 +12,11 @@ use Rattle.signage.specs.Lines.{lines_of}
 use Rattle.signage.specs.Preview.{Input, IsManifest, Reads, IsPreview, body_of}
 use Rattle.signage.specs.Loading.{ReadsSome, Stops, Refused}
 use Rattle.signage.specs.Printing.{IsTimeline}
+
+-- a fault that isn't want of memory is one of the bytes
+pub cause_of : (fault : ManifestFault) → (fault ≡ OutOfMemory → ⊥) → has_cause fault ≡ true
+cause_of OutOfMemory other = absurd (other refl)
+cause_of fault other = refl
 
 -- one of two statuses
 two_cases : (status k : ℕ) → k < 2 → get_or (0 ∷ 9 ∷ []) k status ≡ status → (status ≡ 0) ⊎ (status ≡ 9)
@@ -51,10 +59,10 @@ stop_preview before after moments TooLong h = record {
   read = λ e. absurd (omega (arith, e));
   memory = λ e. absurd (omega (arith, e));
 }
-stop_preview before after moments NoManifest h = record {
+stop_preview before after moments (NoManifest fault) h = record {
   known = (1, lit< tt, refl);
   shown = λ e. absurd (omega (arith, e));
-  refused = λ e. inr (h, refl);
+  refused = λ e. inr (fault, h, refl);
   read = λ e. absurd (omega (arith, e));
   memory = λ e. absurd (omega (arith, e));
 }
@@ -79,6 +87,6 @@ pub loaded : (before after : Input) (input : List ℕ) (r : Result SnapshotRow S
 loaded before after input (Ok s) some short is = record { input = input; taken = record { taken = some.taken; end = elim some.whole [ inl long ↦ absurd (omega (arith, long, short)) | inr e ↦ e ]; short = short }; is = is }
 loaded before after input (Err Usage) some short h = absurd h
 loaded before after input (Err TooLong) some short h = absurd h
-loaded before after input (Err NoManifest) some short h = record { input = input; taken = record { taken = some.taken; end = elim some.whole [ inl long ↦ absurd (omega (arith, long, short)) | inr e ↦ e ]; short = short }; no = h }
+loaded before after input (Err (NoManifest fault)) some short h = record { input = input; taken = record { taken = some.taken; end = elim some.whole [ inl long ↦ absurd (omega (arith, long, short)) | inr e ↦ e ]; short = short }; first = h }
 loaded before after input (Err Read) some short h = absurd h
 loaded before after input (Err Memory) some short h = tt

@@ -1,9 +1,11 @@
 -- What `preview` does: it reads one manifest and writes one line for each moment.
-use Rattle.std.specs.Prelude.{◌≡◌, ℕ, ◌-◌, ◌<◌, ◌≤◌, ◌==◌, if◌then◌else◌, ◌⊎◌, List, [], ◌∷◌, ◌++◌, length, take, Contains, slice_index}
+use Rattle.std.specs.Prelude.{◌≡◌, ℕ, ◌-◌, ◌<◌, ◌≤◌, ◌==◌, if◌then◌else◌, ◌⊎◌, List, [], ◌∷◌, ◌++◌, length, take, Contains, slice_index, Err}
 use Rattle.std.specs.declared.option.Option.{Option}
 use Rattle.std.specs.Io.KnownBytes.{Consumes, IsAtEnd}
 use Rattle.sg_outside.specs.Causes.{Rose}
 use Rattle.sg_manifest.specs.Snapshot.{SnapshotRow, IsSnapshot}
+use Rattle.sg_manifest.specs.declared.fault.ManifestFault.{ManifestFault}
+use Rattle.sg_manifest.specs.Reading.{manifest_at}
 use Rattle.sg_manifest.specs.Text.{text}
 use Rattle.signage.specs.Texts.{too_long, no_manifest, read_fault, memory_fault}
 use Rattle.signage.specs.Lines.{lines_of}
@@ -53,15 +55,16 @@ pub record IsLong (before after : Input) : Type 0 where
   pub taken : Consumes before.left after.left input
   pub long : 1048577 < length input
 
--- the whole input was read, and it is no manifest
-pub record IsRefused (before after : Input) : Type 0 where
+-- the whole input was read, and this is its first fault as a manifest
+pub record IsRefused (before after : Input) (fault : ManifestFault) : Type 0 where
   pub input : List ℕ
   pub taken : TakesAll before after input
-  pub no : (s : SnapshotRow) → IsManifest (body_of input) s → ⊥
+  pub first : manifest_at (body_of input) ≡ Err fault
 
 -- the reason for which an input is refused, with its text
 abbrev pub Refuses : Input → Input → List ℕ → Type 0
-Refuses before after output = (IsLong before after × (output ≡ too_long)) ⊎ (IsRefused before after × (output ≡ no_manifest))
+Refuses before after output =
+    (IsLong before after × (output ≡ too_long)) ⊎ ((fault : ManifestFault) × IsRefused before after fault × (output ≡ no_manifest fault))
 
 -- want of memory: after the lines of some first moments, or before any
 pub record RunsOut (before after : Input) (moments output : List ℕ) : Type 0 where

@@ -11,14 +11,14 @@ use Rattle.signage.specs.Texts.{usage, too_long, no_manifest, read_fault, memory
 abbrev pub status_of : Stop → ℕ
 status_of Usage = 2
 status_of TooLong = 3
-status_of NoManifest = 3
+status_of (NoManifest fault) = 3
 status_of Read = 4
 status_of Memory = 9
 
 abbrev pub text_of : Stop → List ℕ
 text_of Usage = usage
 text_of TooLong = too_long
-text_of NoManifest = no_manifest
+text_of (NoManifest fault) = no_manifest fault
 text_of Read = read_fault
 text_of Memory = memory_fault
 

@@ -1,5 +1,5 @@
 //! Each take and each put of a run failing in turn.
-use crate::tests::{LINES, NOT_BUILT, PLAIN, USAGE, expect, source_of};
+use crate::tests::{LINES, NOT_JSON, PLAIN, USAGE, expect, source_of};
 use sg_outside::{MemSink, MemSource};
 use std::alloc::Global;
 use std::process::Abort;
@@ -14,7 +14,7 @@ type Run = (&'static str, &'static str, u8, &'static str);
 const RUNS: [Run; 3] = [
     ("preview 0 3599 3600", PLAIN, 0, LINES),
     ("preview 01", PLAIN, 2, USAGE),
-    ("preview 0", "{", 3, NOT_BUILT),
+    ("preview 0", "{", 3, NOT_JSON),
 ];
 
 // A source whose k-th take fails.

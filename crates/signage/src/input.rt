@@ -63,6 +63,7 @@ pub(crate) fn load<S: Source>(alloc: Global, source: &mut S) -> Result<Snapshot,
 }
 
 /// The snapshot whose text the bytes are.
+#[tactic(auto, using(crate::proofs::PreviewLemmas::cause_of))]
 fn manifest(alloc: Global, bytes: &[u8]) -> Result<Snapshot, Stop>
     ensures { MatchResult result
         (λ s. IsManifest bytes.now s)
@@ -70,7 +71,7 @@ fn manifest(alloc: Global, bytes: &[u8]) -> Result<Snapshot, Stop>
 {
     match read(alloc, bytes) {
         Ok(snapshot) => Ok(snapshot),
-        Err(ManifestFault::NotBuilt) => Err(Stop::NoManifest),
         Err(ManifestFault::Memory) => Err(Stop::Memory),
+        Err(fault) => Err(Stop::NoManifest(fault)),
     }
 }

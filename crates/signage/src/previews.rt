@@ -23,7 +23,7 @@ use std::sync::ledger::{Blank, Ledger};
 /// Reads one manifest and writes one line for each moment, by the slot and the picture of the snapshot. The
 /// answer is the status:
 /// - 0: the input was read to its end, and every line was written;
-/// - 3: the input is longer than 1,048,577 bytes, or the text of no valid manifest;
+/// - 3: the input is longer than 1,048,577 bytes, or no manifest: the name of its first fault is written;
 /// - 4: the source failed;
 /// - 5: the sink failed, and nothing was written after that;
 /// - 9: memory ran out, after the lines of some first moments or before any.

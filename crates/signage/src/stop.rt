@@ -2,7 +2,9 @@
 
 ghost use Rattle.std.specs.Prelude.{◌≡◌, ◌≢◌, OnOk};
 ghost use Rattle.signage.specs.Stop.{status_of, text_of, Finishes};
+ghost use Rattle.signage.specs.Texts.{no_manifest};
 
+use sg_manifest::ManifestFault;
 use sg_outside::{Sink, put_all};
 
 /// Why a command ends without having done its work.
@@ -12,8 +14,8 @@ pub(crate) enum Stop {
     Usage,
     /// The input has more bytes than a manifest may have.
     TooLong,
-    /// The input is the text of no valid manifest.
-    NoManifest,
+    /// The input is no manifest: its first fault.
+    NoManifest(ManifestFault),
     /// The source failed.
     Read,
     /// Memory ran out.
@@ -27,24 +29,41 @@ impl Stop {
     {
         match self {
             Stop::Usage => 2,
-            Stop::TooLong | Stop::NoManifest => 3,
+            Stop::TooLong | Stop::NoManifest(_) => 3,
             Stop::Read => 4,
             Stop::Memory => 9,
         }
     }
 
     /// The line that the command writes.
-    #[tactic(auto, unfolding(crate::specs::Texts::usage, crate::specs::Texts::too_long, crate::specs::Texts::no_manifest, crate::specs::Texts::read_fault, crate::specs::Texts::memory_fault))]
+    #[tactic(auto, unfolding(crate::specs::Texts::usage, crate::specs::Texts::too_long, crate::specs::Texts::read_fault, crate::specs::Texts::memory_fault))]
     fn text(self) -> &'static str
         ensures { result.now ≡ text_of self }
     {
         match self {
             Stop::Usage => "usage: signage preview|format|play|serve|edit|report|rehearse\n",
             Stop::TooLong => "input: too long\n",
-            Stop::NoManifest => "input: manifest NotBuilt\n",
+            Stop::NoManifest(fault) => no_manifest(fault),
             Stop::Read => "fault: read\n",
             Stop::Memory => "fault: memory\n",
         }
+    }
+}
+
+/// The line for a fault of a manifest. Want of memory has a line of its own, and isn't shown by this one.
+#[tactic(auto, unfolding(crate::specs::Texts::no_manifest))]
+fn no_manifest(fault: ManifestFault) -> &'static str
+    ensures { result.now ≡ no_manifest fault }
+{
+    match fault {
+        ManifestFault::NotJson => "input: manifest NotJson\n",
+        ManifestFault::BadField { .. } => "input: manifest BadField\n",
+        ManifestFault::Limit { .. } => "input: manifest Limit\n",
+        ManifestFault::Dangling { .. } => "input: manifest Dangling\n",
+        ManifestFault::Double { .. } => "input: manifest Double\n",
+        ManifestFault::Version(_) => "input: manifest Version\n",
+        ManifestFault::NotCanonical(_) => "input: manifest NotCanonical\n",
+        ManifestFault::Memory => "input: manifest Memory\n",
     }
 }
 

@@ -20,7 +20,19 @@ pub(crate) const LINES: &str =
 
 pub(crate) const USAGE: &str = "usage: signage preview|format|play|serve|edit|report|rehearse\n";
 
-pub(crate) const NOT_BUILT: &str = "input: manifest NotBuilt\n";
+pub(crate) const NOT_JSON: &str = "input: manifest NotJson\n";
+
+const BAD_FIELD: &str = "input: manifest BadField\n";
+
+const DANGLING: &str = "input: manifest Dangling\n";
+
+const DOUBLE: &str = "input: manifest Double\n";
+
+const VERSION: &str = "input: manifest Version\n";
+
+const LIMIT: &str = "input: manifest Limit\n";
+
+const NOT_CANONICAL: &str = "input: manifest NotCanonical\n";
 
 // The words of a line, parted by single spaces.
 fn words_of(alloc: Global, line: &str) -> Result<Vec<String>, Fail> {
@@ -130,14 +142,19 @@ fn words_out_of_the_table_are_usage(rt: HostRuntime) -> Result<(), Fail> {
 #[test]
 fn refuses_what_is_no_manifest(rt: HostRuntime) -> Result<(), Fail> {
     let alloc = rt.alloc();
-    for (from, to) in [
-        ("\"version\":1", "\"version\":3"),
-        ("{\"campaigns", "{ \"campaigns"),
-        ("\"default\":1", "\"default\":2"),
-        ("\"seconds\":10", "\"seconds\":0"),
-        ("\"seconds\":10", "\"seconds\":3601"),
-        ("\"media\":1", "\"media\":2"),
-        ("\"offset\":0", "\"offset\":841"),
+    for (from, to, shown) in [
+        ("\"version\":1", "\"version\":3", VERSION),
+        ("{\"campaigns", "{ \"campaigns", NOT_CANONICAL),
+        ("\"default\":1", "\"default\":2", DANGLING),
+        ("\"seconds\":10", "\"seconds\":0", BAD_FIELD),
+        ("\"seconds\":10", "\"seconds\":3601", BAD_FIELD),
+        ("\"media\":1", "\"media\":2", DANGLING),
+        ("\"offset\":0", "\"offset\":841", BAD_FIELD),
+        (
+            "\"files\":[",
+            "\"files\":[{\"id\":1,\"length\":3,\"md5\":\"900150983cd24fb0d6963f7d28e17f72\"},",
+            DOUBLE,
+        ),
     ] {
         let text = PLAIN.replacen(alloc, from, to, 1)?;
         expect(
@@ -147,7 +164,7 @@ fn refuses_what_is_no_manifest(rt: HostRuntime) -> Result<(), Fail> {
             source_of(alloc, text.as_str())?,
             MemSink::new(alloc),
             3,
-            NOT_BUILT,
+            shown,
         )?;
     }
     expect(
@@ -157,7 +174,7 @@ fn refuses_what_is_no_manifest(rt: HostRuntime) -> Result<(), Fail> {
         source_of(alloc, "{")?,
         MemSink::new(alloc),
         3,
-        NOT_BUILT,
+        NOT_JSON,
     )?;
     expect(
         &rt,
@@ -166,7 +183,7 @@ fn refuses_what_is_no_manifest(rt: HostRuntime) -> Result<(), Fail> {
         source_of(alloc, "")?,
         MemSink::new(alloc),
         3,
-        NOT_BUILT,
+        NOT_JSON,
     )
 }
 
@@ -191,7 +208,7 @@ fn one_final_line_feed_is_dropped(rt: HostRuntime) -> Result<(), Fail> {
         source_of(alloc, two.as_str())?,
         MemSink::new(alloc),
         3,
-        NOT_BUILT,
+        NOT_CANONICAL,
     )
 }
 
@@ -206,7 +223,19 @@ fn a_longer_input_is_too_long(rt: HostRuntime) -> Result<(), Fail> {
         longest,
         MemSink::new(alloc),
         3,
-        NOT_BUILT,
+        NOT_JSON,
+    )?;
+    // The plain manifest behind blanks: its text is a byte too long.
+    let mut padded = vec![in alloc; b' '; 1_048_577 - PLAIN.len()]?;
+    padded.extend_from_slice(PLAIN.as_bytes())?;
+    expect(
+        &rt,
+        alloc,
+        "preview 0",
+        MemSource::new(alloc, padded),
+        MemSink::new(alloc),
+        3,
+        LIMIT,
     )?;
     let longer = MemSource::new(alloc, vec![in alloc; b' '; 1_048_578]?);
     expect(
