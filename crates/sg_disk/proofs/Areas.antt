@@ -2,11 +2,14 @@
 use Rattle.std.proofs.Common.{◌≡◌, ◌⊎◌, inl, inr, ℕ, zero, suc, ◌+◌, ◌-◌, ◌*◌, ◌<◌, ◌≤◌, List, [], ◌∷◌, ◌++◌, length, get_or, Option, All, refl, sym, ◌∙◌, ap, subst, arith}
 use Rattle.std.specs.List.{flat_map}
 use Rattle.sg_base.specs.declared.play.PlayBody.{PlayBody}
-use Rattle.sg_disk.specs.View.{range, Torn}
+use Rattle.sg_disk.specs.View.{View, range, Torn, Only}
+use Rattle.sg_disk.specs.Runs.{After, LeavesOnly, Within, HasOne}
 use Rattle.sg_disk.specs.Contents.{Segment, StoredFile, Contents, IsLawful, IsInside, IsClear, AreClear}
-use Rattle.sg_disk.specs.StandsFor.{HasFields, AreSlots, AreFiles, IsJournal, journal_of, IsHeader, StandsFor}
+use Rattle.sg_disk.specs.StandsFor.{HasFields, AreSlots, AreFiles, IsJournal, journal_of, IsHeader, StandsFor, Settled}
 use Rattle.sg_disk.specs.declared.places.TheConstants.{HEADER_LEN, SLOT_ZERO, SLOT_ONE, SLOT_LEN, TABLE, TEXT, ENTRY_LEN, JOURNAL, JOURNAL_LEN, DATA}
-use Rattle.sg_disk.proofs.Ranges.{range_kept, torn_in}
+use Rattle.sg_disk.proofs.Ranges.{range_kept, torn_in, torn_wider}
+use Rattle.sg_disk.proofs.Moments.{weaker}
+use Rattle.sg_disk.proofs.Writes.{one_stable}
 use Rattle.sg_disk.proofs.Standing.{lawful_inside}
 
 -- a clause on an area that isn't written
@@ -85,3 +88,19 @@ reslotted p number text files c d torn lawful slots held stands = record {
   journal = area_kept (IsJournal p.epoch p.plays p.floor) JOURNAL JOURNAL_LEN SLOT_ZERO (2 * SLOT_LEN) c d torn (inr (omega arith)) stands.journal;
   files = area_kept (AreFiles files) DATA p.room SLOT_ZERO (2 * SLOT_LEN) c d torn (inr (omega arith)) held;
 }
+
+-- A write in an area in which every image is what a read gives: what each image may be, at every moment
+pub in_area : (v w : View) (p : Contents) (Q : List ℕ → Type 0) (a l place n : ℕ) → place + n ≤ l → Settled v p → HasOne a l v → Within (a + place) n v w → ((c d : List ℕ) → StandsFor p c → Torn a l c d → Torn place n (range v.bytes a l) (range d a l) → Q d) → LeavesOnly Q v w
+in_area v w p Q a l place n fits settled one within may =
+    weaker v w (After (Torn (a + place) n) v) Q (λ d was.
+    let torn : Torn place n (range was.0 a l) (range d a l) = torn_in a l place n was.0 d fits was.2 in
+    let wide : Torn a l was.0 d = torn_wider (a + place) n a l was.0 d (omega arith) (omega arith) was.2 in
+    may was.0 d (settled.each was.0 was.1) wide (subst (λ (area : List ℕ). Torn place n area (range d a l)) (one was.0 was.1) torn)) within.moments
+
+-- the write behind its sync: every image has in each range what a read gives there
+pub one_written : (w : View) (b : List ℕ) (a l : ℕ) → w.bytes ≡ b → Only b w → HasOne a l w
+one_written w b a l bytes only = one_stable a l w (subst (λ (d : List ℕ). Only d w) (sym bytes) only)
+
+-- what a read gives in the area after a write there
+pub area_written : (v w : View) (a l place n : ℕ) → v.told → place + n ≤ l → Within (a + place) n v w → Torn place n (range v.bytes a l) (range w.bytes a l)
+area_written v w a l place n told fits within = torn_in a l place n v.bytes w.bytes fits (within.bytes told)

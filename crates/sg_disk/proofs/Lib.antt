@@ -1,4 +1,5 @@
 pub mod Ranges
+pub mod Parts
 pub mod Moments
 pub mod Writes
 pub mod Overwrites

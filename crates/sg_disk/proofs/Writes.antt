@@ -77,3 +77,10 @@ within_quiet place n k v w quiet = record {
   moments = weaker v w v.images (After (Torn place n) v) (λ c was. (c, was, torn_none place n c)) quiet.moments;
   bytes = λ told. unwritten place n v.bytes w.bytes (quiet.bytes told);
 }
+
+-- a write inside an area
+pub within_part : (a l place : ℕ) (bs : List ℕ) (v w : View) → a ≤ place → place + length bs ≤ a + l → place + length bs ≤ v.size → Passed (Written place bs) (Torn place (length bs)) v w → Within a l v w
+within_part a l place bs v w low high fits call = within_wider place (length bs) a l v w low high (within_write place bs v w fits call)
+
+pub within_part_failed : (a l place n : ℕ) (v w : View) → a ≤ place → place + n ≤ a + l → Failed (Torn place n) v w → Within a l v w
+within_part_failed a l place n v w low high call = within_wider place n a l v w low high (within_write_failed place n v w call)

@@ -44,12 +44,13 @@ AreClear place n files = All (λ f. All (IsClear place n) f.segments) files
 abbrev pub IsInside : ℕ → Segment → Type 0
 IsInside room s = (DATA ≤ s.place) × (s.place + s.size ≤ DATA + room)
 
--- the files of a table are by ascending id, each with a length within its limit
+-- the files of a table are by ascending id, each with a length within its limit and a digest of 16 bytes
 pub record AreListed (files : List StoredFile) : Type 0 where
   pub few : length files ≤ MAX_FILES
   pub ids : All (λ f. (1 ≤ f.listed.media.0) × (f.listed.media.0 < 2 ^ 32)) files
   pub ascending : AllPairs (λ f g. f.listed.media.0 < g.listed.media.0) files
   pub lengths : All (λ f. (1 ≤ f.listed.length) × (f.listed.length ≤ MAX_FILE_LEN)) files
+  pub digests : All (λ f. length f.listed.md5 ≡ 16) files
 
 -- in format 1 a file is one segment of its length
 abbrev pub IsExtent : StoredFile → Type 0

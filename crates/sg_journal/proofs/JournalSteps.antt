@@ -14,7 +14,8 @@ use Rattle.sg_disk.proofs.Moments.{joined, weaker}
 use Rattle.sg_disk.proofs.Writes.{within_wider, within_joined}
 use Rattle.sg_journal.specs.declared.journal.Journal.{Journal}
 use Rattle.sg_journal.specs.Ready.{next_of, plays_of, IsReady}
-use Rattle.sg_journal.proofs.DiskLemmas.{in_area, one_written, area_written, byte_written, range_written}
+use Rattle.sg_disk.proofs.Areas.{in_area, one_written, area_written}
+use Rattle.sg_disk.proofs.Parts.{area_byte_written, area_range_written}
 use Rattle.sg_journal.proofs.Ring.{still_open, closed, filled, still_closed, opened}
 
 -- a record lies in the journal's area
@@ -76,7 +77,7 @@ closed_plays v w j p place full at size within written ready =
     let here : Within (JOURNAL + RECORD_LEN * next_record j) 1 v w = subst (λ (m : ℕ). Within m 1 v w) at within in
     let is : w.bytes ≡ put v.bytes (JOURNAL + RECORD_LEN * next_record j) (0 ∷ []) = written told ∙ ap (λ (m : ℕ). put v.bytes m (0 ∷ [])) at in
     let torn = area_written v w JOURNAL JOURNAL_LEN (RECORD_LEN * next_record j) 1 told (gate_in (next_of j - 1)) here in
-    let zero : gate (journal_of w.bytes) (next_record j) ≡ 0 = byte_written v.bytes w.bytes JOURNAL JOURNAL_LEN (RECORD_LEN * next_record j) 0 is (omega arith) (omega (arith, size, v.sized told)) in
+    let zero : gate (journal_of w.bytes) (next_record j) ≡ 0 = area_byte_written v.bytes w.bytes JOURNAL JOURNAL_LEN (RECORD_LEN * next_record j) 0 is (omega arith) (omega (arith, size, v.sized told)) in
     let shut : gate (journal_of w.bytes) (next_record j) ≢ 1 = λ one. omega (arith, zero, one) in
     closed p.epoch j.oldest (next_record j) p.plays (journal_of v.bytes) (journal_of w.bytes) (oldest_at j full) (omega (arith, full.round, ready.next, j.starts)) torn shut ready.held
 
@@ -134,7 +135,7 @@ filling_body v w j place bs long at size told written =
     let here : place + 4 ≡ JOURNAL + (RECORD_LEN * next_record j + 4) = omega (arith, at) in
     let is : w.bytes ≡ put v.bytes (JOURNAL + (RECORD_LEN * next_record j + 4)) bs = written ∙ ap (λ (m : ℕ). put v.bytes m bs) here in
     let fits = fields_in (next_of j - 1) in
-    ap (λ (n : ℕ). range (journal_of w.bytes) (RECORD_LEN * next_record j + 4) n) (sym long) ∙ range_written v.bytes w.bytes JOURNAL JOURNAL_LEN (RECORD_LEN * next_record j + 4) bs is (omega (arith, fits, long)) (omega (arith, fits, long, size, v.sized told))
+    ap (λ (n : ℕ). range (journal_of w.bytes) (RECORD_LEN * next_record j + 4) n) (sym long) ∙ area_range_written v.bytes w.bytes JOURNAL JOURNAL_LEN (RECORD_LEN * next_record j + 4) bs is (omega (arith, fits, long)) (omega (arith, fits, long, size, v.sized told))
 
 -- the gate of the next play's record, at every moment
 opening_journal : (v : View) (j : Journal) (p : Contents) (play : PlayBody) (area : List ℕ) → IsFree j play → IsReady v j p → body (journal_of v.bytes) (next_record j) ≡ fields j.epoch (next_of j) play → Torn (RECORD_LEN * next_record j) 1 (journal_of v.bytes) area → (gate area (next_record j) ≢ 1 × HoldsPlays p.epoch j.oldest p.plays area) ⊎ (gate area (next_record j) ≡ 1 × HoldsPlays p.epoch j.oldest (p.plays ++ play ∷ []) area)
@@ -165,7 +166,7 @@ opened_plays v w j p play place free at size has within written ready =
     let here : Within (JOURNAL + RECORD_LEN * next_record j) 1 v w = subst (λ (m : ℕ). Within m 1 v w) at within in
     let is : w.bytes ≡ put v.bytes (JOURNAL + RECORD_LEN * next_record j) (1 ∷ []) = written told ∙ ap (λ (m : ℕ). put v.bytes m (1 ∷ [])) at in
     let torn = area_written v w JOURNAL JOURNAL_LEN (RECORD_LEN * next_record j) 1 told (gate_in (next_of j - 1)) here in
-    let one : gate (journal_of w.bytes) (next_record j) ≡ 1 = byte_written v.bytes w.bytes JOURNAL JOURNAL_LEN (RECORD_LEN * next_record j) 1 is (omega arith) (omega (arith, size, v.sized told)) in
+    let one : gate (journal_of w.bytes) (next_record j) ≡ 1 = area_byte_written v.bytes w.bytes JOURNAL JOURNAL_LEN (RECORD_LEN * next_record j) 1 is (omega arith) (omega (arith, size, v.sized told)) in
     elim (opening_journal v j p play (journal_of w.bytes) free ready (has told) torn) [
       | inl shut ↦ absurd (shut.0 one)
       | inr open_now ↦ open_now.1

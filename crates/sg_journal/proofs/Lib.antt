@@ -1,5 +1,4 @@
 pub mod Ring
-pub mod DiskLemmas
 pub mod JournalSteps
 pub mod EntryLemmas
 pub mod ReadLemmas

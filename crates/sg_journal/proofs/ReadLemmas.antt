@@ -7,7 +7,7 @@ use Rattle.sg_disk.specs.Runs.{Ran, Broke, Quiet}
 use Rattle.sg_disk.specs.StandsFor.{journal_of}
 use Rattle.sg_disk.proofs.Ranges.{range-range}
 use Rattle.sg_disk.proofs.Moments.{ran_broke, ran_fewer, broke_one, quiet_one, quiet_joined}
-use Rattle.sg_journal.proofs.DiskLemmas.{range_more}
+use Rattle.sg_disk.proofs.Parts.{range_more}
 use Rattle.sg_disk.specs.declared.places.TheConstants.{JOURNAL, JOURNAL_LEN, RECORDS, RECORD_LEN}
 use Rattle.sg_journal.specs.declared.fault.OpenFault.{OpenFault}
 use Rattle.sg_journal.specs.declared.fault.OpenFault.TheVariants.{Damaged, Disk, Memory}

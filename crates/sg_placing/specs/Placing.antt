@@ -1,5 +1,5 @@
 -- Where the bytes of files stand in the data area, and the gaps between them.
-use Rattle.std.specs.Prelude.{◌≡◌, ℕ, ◌+◌, ◌^◌, ◌<◌, ◌≤◌, List, [], ◌∷◌, All, Bool, ◌&&◌, ◌==◌, nat_eq}
+use Rattle.std.specs.Prelude.{◌≡◌, ℕ, ◌+◌, ◌^◌, ◌<◌, ◌≤◌, List, [], ◌∷◌, All, AllPairs, Bool, ◌&&◌, ◌==◌, nat_eq}
 use Rattle.std.specs.Cmp.Lexicographic.{pointwise}
 use Rattle.sg_base.specs.declared.file.Listed.{Listed}
 use Rattle.sg_disk.specs.Contents.{Segment, StoredFile, IsClear, IsInside}
@@ -31,6 +31,10 @@ pub record IsPlaced (room : ℕ) (p : Placed) : Type 0 where
 -- none of the n bytes at a place is a placed file's
 abbrev pub AreClearOf : List Placed → ℕ → ℕ → Type 0
 AreClearOf taken n place = All (λ p. IsClear place n (segment_of p)) taken
+
+-- no byte belongs to two files
+abbrev pub AreApart : List Placed → Type 0
+AreApart files = AllPairs (λ p q. IsClear q.place q.file.length (segment_of p)) files
 
 -- the n bytes at a place are in a gap: they lie in the data area, and none is a placed file's
 pub record IsFree (room : ℕ) (taken : List Placed) (n place : ℕ) : Type 0 where

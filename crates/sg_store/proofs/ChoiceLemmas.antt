@@ -13,10 +13,10 @@ use Rattle.sg_disk.specs.StandsFor.{place_of, entry, IsHeld, AreFiles}
 use Rattle.sg_disk.specs.declared.places.TheConstants.{DATA, MAX_FILES, MAX_TEXT, MAX_FILE_LEN}
 use Rattle.sg_disk.proofs.Ranges.{range-range, length-range}
 use Rattle.sg_disk.proofs.Extents.{extent_of, apart_extents}
-use Rattle.sg_placing.specs.Placing.{segment_of, segments_of_placed, placed_of, same_file, IsPlaced}
+use Rattle.sg_placing.specs.Placing.{segment_of, segments_of_placed, placed_of, same_file, IsPlaced, AreApart}
 use Rattle.sg_placing.specs.declared.placed.Placed.{Placed}
-use Rattle.sg_store.specs.Bytes.{placed_entry}
-use Rattle.sg_store.specs.Ready.{placed_as, chosen, stored_file, bytes_in, IsWhole, AreApart}
+use Rattle.sg_slots.specs.Bytes.{placed_entry}
+use Rattle.sg_store.specs.Ready.{placed_as, chosen, stored_file, bytes_in, IsWhole}
 
 -- a listed file among these: its place in the list, and what stands there
 pub record Member (files : List Placed) (f : Listed) : Type 0 where
@@ -133,8 +133,8 @@ apart_members files f g m n apart ids = elim (cases_lt m.k n.k) [
 ]
 
 -- the files of a new snapshot are sound
-pub stored_snapshot : (room number : ℕ) (text : List ℕ) (files : List Placed) (c : List ℕ) (listed : List Listed) → (1 ≤ number) × (number < 2 ^ 32) → (1 ≤ length text) × (length text ≤ MAX_TEXT) → length listed ≤ MAX_FILES → AllPairs (λ f g. f.media.0 < g.media.0) listed → All (λ f. is_some (placed_as files f) ≡ true) listed → All (IsPlaced room) files → AreApart files → IsSnapshot room number text (map (stored_file files c) listed)
-stored_snapshot room number text files c listed number_ok text_ok few ascending held placed apart =
+pub stored_snapshot : (room number : ℕ) (text : List ℕ) (files : List Placed) (c : List ℕ) (listed : List Listed) → (1 ≤ number) × (number < 2 ^ 32) → (1 ≤ length text) × (length text ≤ MAX_TEXT) → length listed ≤ MAX_FILES → AllPairs (λ f g. f.media.0 < g.media.0) listed → All (λ f. is_some (placed_as files f) ≡ true) listed → All (IsPlaced room) files → All (λ p. length p.file.md5 ≡ 16) files → AreApart files → IsSnapshot room number text (map (stored_file files c) listed)
+stored_snapshot room number text files c listed number_ok text_ok few ascending held placed whole apart =
     let F : List StoredFile = map (stored_file files c) listed in
     let m : (k : ℕ) → (lt : k < length listed) → Member files (get_or listed k nothing_listed) = λ k lt. member_at files listed k held lt in
     let is : (k : ℕ) → (lt : k < length listed) → IsPlaced room (m k lt).q = λ k lt. placed_member room files (get_or listed k nothing_listed) (m k lt) placed in
@@ -147,6 +147,7 @@ stored_snapshot room number text files c listed number_ok text_ok few ascending 
         ids = each_stored files c listed (λ f. (1 ≤ f.listed.media.0) × (f.listed.media.0 < 2 ^ 32)) (λ k lt. subst (λ (l : Listed). (1 ≤ l.media.0) × (l.media.0 < 2 ^ 32)) (m k lt).same (is k lt).media);
         ascending = rising listed ascending;
         lengths = each_stored files c listed (λ f. (1 ≤ f.listed.length) × (f.listed.length ≤ MAX_FILE_LEN)) (λ k lt. subst (λ (l : Listed). (1 ≤ l.length) × (l.length ≤ MAX_FILE_LEN)) (m k lt).same (is k lt).length);
+        digests = each_stored files c listed (λ f. length f.listed.md5 ≡ 16) (λ k lt. subst (λ (l : Listed). length l.md5 ≡ 16) (m k lt).same (subst (λ (p : Placed). length p.file.md5 ≡ 16) ((m k lt).at (m k lt).q) (whole (m k lt).k (m k lt).q (m k lt).lt)));
       };
       extents = extents;
       inside = each_stored files c listed (λ f. All (IsInside room) f.segments) (λ k lt. subst (All (IsInside room)) (sym (stored_is files c (get_or listed k nothing_listed) (m k lt))) (one_inside (m k lt).q (is k lt).inside));

@@ -1,7 +1,8 @@
 -- The fields of a slot that was filled, and the store after a switch.
-use Rattle.std.proofs.Common.{◌≡◌, inl, inr, ℕ, zero, suc, ◌+◌, ◌*◌, ◌<◌, ◌≤◌, ◌^◌, ◌↔◌, ◌==◌, Bool, true, not, List, [], ◌∷◌, length, map, replicate, Option, None, Some, MatchOption, All, AllPairs, refl, sym, ◌∙◌, ap, subst, arith, length-append}
+use Rattle.std.proofs.Common.{◌≡◌, inl, inr, ℕ, zero, suc, ◌+◌, ◌*◌, ◌<◌, ◌≤◌, ◌^◌, ◌↔◌, ◌==◌, Bool, true, not, List, [], ◌∷◌, length, map, replicate, Option, None, Some, MatchOption, All, AllPairs, get_or, refl, sym, ◌∙◌, ap, subst, arith, length-append}
 use Rattle.std.proofs.lemmas.List.Elements.{All-append}
 use Rattle.std.specs.List.{flat_map}
+use Rattle.md5.proofs.StandardFacts.{length-md5}
 use Rattle.std.proofs.lemmas.Bool.{eq-eqb, ne_eqb, true≢false}
 use Rattle.std.proofs.lemmas.List.{length-map}
 use Rattle.sg_base.specs.declared.file.Listed.{Listed}
@@ -13,17 +14,17 @@ use Rattle.sg_disk.specs.declared.places.TheConstants.{SLOT_LEN, TABLE, TEXT, EN
 use Rattle.sg_disk.proofs.Ranges.{range_kept, range_put, range-range, put_is_torn, length-put}
 use Rattle.sg_disk.proofs.Standing.{settled_by, settled_read}
 use Rattle.sg_disk.proofs.Writes.{one_stable, bytes_kept}
-use Rattle.sg_placing.specs.Placing.{segment_of, placed_of, IsPlaced}
-use Rattle.sg_store.specs.Bytes.{head_fields, table_bytes}
-use Rattle.sg_store.specs.Slots.{slot_place, slot_of, opposite}
-use Rattle.sg_store.specs.Ready.{chosen, whole_files, half_files, stored_file, stored_files, is_held, IsReady}
+use Rattle.sg_placing.specs.Placing.{segment_of, segments_of_placed, placed_of, IsPlaced}
+use Rattle.sg_slots.specs.Bytes.{head_fields, table_bytes}
+use Rattle.sg_slots.specs.Slots.{slot_place, slot_of, opposite}
+use Rattle.sg_store.specs.Ready.{chosen, bytes_in, whole_files, half_files, stored_file, stored_files, is_held, IsReady}
 use Rattle.sg_store.specs.declared.store.Store.{Store}
-use Rattle.sg_store.specs.declared.slots.Slot.{Slot}
-use Rattle.sg_store.specs.declared.slots.Slot.TheVariants.{Zero, One}
-use Rattle.sg_store.proofs.DiskLemmas.{range_written, range_all}
-use Rattle.sg_store.proofs.SlotLemmas.{place_high}
-use Rattle.sg_store.proofs.OpenLemmas.{digests_held, staged_none}
-use Rattle.sg_store.proofs.TableLemmas.{entry_long}
+use Rattle.sg_slots.specs.declared.slots.Slot.{Slot}
+use Rattle.sg_slots.specs.declared.slots.Slot.TheVariants.{Zero, One}
+use Rattle.sg_disk.proofs.Parts.{range_written, range_all}
+use Rattle.sg_slots.proofs.SlotLemmas.{place_high}
+use Rattle.sg_store.proofs.OpenLemmas.{staged_none}
+use Rattle.sg_slots.proofs.TableLemmas.{entry_long}
 use Rattle.sg_store.proofs.StageLemmas.{pairs_front}
 use Rattle.sg_store.proofs.ChoiceLemmas.{chosen_stored, entries_same, stored_snapshot, stored_held}
 use Rattle.sg_store.proofs.SwitchLemmas.{Stand, Closed, Filled, opposite_apart, opened_slots, opened_stands, closed_still}
@@ -134,7 +135,7 @@ next_lawful v s p text files ready placed asks =
     let small : p.number + 1 < 2 ^ 32 = omega (arith, fits, asks.left, ready.knows.number) in
     let inside : All (IsPlaced p.room) (whole_files s) = subst (λ (n : ℕ). All (IsPlaced n) (whole_files s)) ready.knows.room placed in
     lawful_switched p text (stored_files s v.bytes files)
-    (stored_snapshot p.room (p.number + 1) text (whole_files s) v.bytes files (omega arith, small) (asks.some, asks.long) asks.few asks.ascending asks.held inside (pairs_front (λ q r. IsClear r.place r.file.length (segment_of q)) (whole_files s) (half_files s.half) ready.staged.apart))
+    (stored_snapshot p.room (p.number + 1) text (whole_files s) v.bytes files (omega arith, small) (asks.some, asks.long) asks.few asks.ascending asks.held inside (λ k d lt. ap length (sym (ready.staged.whole k d lt)) ∙ length-md5 (bytes_in v.bytes (segments_of_placed (get_or (whole_files s) k d)))) (pairs_front (λ q r. IsClear r.place r.file.length (segment_of q)) (whole_files s) (half_files s.half) ready.staged.apart))
     lawful
 
 -- the disk holds its files
@@ -161,11 +162,13 @@ filled_by u v w s p text files head table ready placed asks closed closing told 
     let place : ℕ = slot_place s.spare in
     let all : w.bytes ≡ put (put (put v.bytes (place + 4) (head_fields (p.number + 1) (length text) (length F))) (place + TABLE) (table_bytes (map placed_of F))) (place + TEXT) text =
     written ∙ ap (λ (h : List ℕ). put (put (put v.bytes (place + 4) h) (place + TABLE) table) (place + TEXT) text) head_as ∙ ap (λ (t : List ℕ). put (put (put v.bytes (place + 4) (head_fields (p.number + 1) (length text) (length F))) (place + TABLE) t) (place + TEXT) text) table_as in
+    let lawful = next_lawful u s p text files ready placed asks in
+    let snapshot : IsSnapshot p.room (p.number + 1) text F = lawful.snapshot in
     record {
       closed = closed_still v w p s.spare closed told only within moments;
-      has = slot_filled s.spare v.bytes w.bytes (p.number + 1) text F (omega (arith, closed.stands.size)) asks.long (omega (arith, asks.few, count)) (omega (arith, table_fits, ap length table_as)) (entries_long F (digests_held F (range u.bytes DATA p.room) held)) all;
+      has = slot_filled s.spare v.bytes w.bytes (p.number + 1) text F (omega (arith, closed.stands.size)) asks.long (omega (arith, asks.few, count)) (omega (arith, table_fits, ap length table_as)) (entries_long F snapshot.listed.digests) all;
       held = subst (AreFiles F) (sym same) held;
-      lawful = next_lawful u s p text files ready placed asks;
+      lawful = lawful;
     }
 
 -- how the gate of the slot that was current stands

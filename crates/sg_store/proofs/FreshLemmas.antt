@@ -1,5 +1,5 @@
 -- The bytes of a new store, write by write.
-use Rattle.std.proofs.Common.{◌≡◌, ◌⊎◌, inl, inr, ℕ, ◌+◌, ◌-◌, ◌*◌, ◌<◌, ◌≤◌, List, [], ◌∷◌, ◌^◌, length, get_or, replicate, codes, refl, sym, ◌∙◌, ap, subst, arith, zero-add}
+use Rattle.std.proofs.Common.{◌≡◌, ◌⊎◌, inl, inr, ℕ, ◌+◌, ◌-◌, ◌*◌, ◌<◌, ◌≤◌, List, [], ◌∷◌, ◌^◌, length, get_or, replicate, codes, Result, Ok, Err, OnErr, refl, sym, ◌∙◌, ap, subst, arith, zero-add}
 use Rattle.std.proofs.lemmas.Bool.{cases_lt}
 use Rattle.std.proofs.lemmas.List.{length-replicate, get_or-replicate}
 use Rattle.sg_disk.specs.View.{View, range, put, Torn, Written, Passed}
@@ -10,8 +10,8 @@ use Rattle.sg_disk.specs.StandsFor.{le32, le64, IsHeader, StandsFor}
 use Rattle.sg_disk.proofs.Fresh.{lawful_fresh, fresh_stands}
 use Rattle.sg_disk.proofs.Ranges.{torn_none, torn_wider, torn_joined, put_is_torn, byte_kept, range_kept, range-range, byte_in, byte_put, length-put}
 use Rattle.sg_disk.proofs.Moments.{ran_none, ran_one, ran_joined, ran_fewer}
-use Rattle.sg_store.specs.Bytes.{header_fields, AreZeros}
-use Rattle.sg_store.proofs.DiskLemmas.{byte_written, range_written}
+use Rattle.sg_slots.specs.Bytes.{header_fields, AreZeros}
+use Rattle.sg_disk.proofs.Parts.{byte_written, range_written}
 
 -- zeros outside a range that is written
 pub zeros_kept : (a l place n : ℕ) (c d : List ℕ) → Torn place n c d → (a + l ≤ place) ⊎ (place + n ≤ a) → AreZeros a l c → AreZeros a l d
@@ -145,3 +145,8 @@ fresh_written display epoch room c display_ok epoch_ok room_ok size zero one jou
   where
     part : (k : ℕ) → k < RECORDS → (d : List ℕ) → AreZeros JOURNAL JOURNAL_LEN d → AreZeros (JOURNAL + RECORD_LEN * k) 1 d
     part k lt d zeros p low high = zeros p (omega (arith, low)) (omega (arith, high, lt))
+
+-- a clause on an answer that is an `Err`, where its fact holds in any case
+pub on_err : {T E : Type 0} (r : Result T E) (P : Type 0) → P → OnErr r P
+on_err (Ok x) P p = tt
+on_err (Err e) P p = p

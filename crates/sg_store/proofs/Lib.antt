@@ -1,9 +1,4 @@
-pub mod DiskLemmas
 pub mod FreshLemmas
-pub mod SlotLemmas
-pub mod HeaderLemmas
-pub mod OverlapLemmas
-pub mod TableLemmas
 pub mod OpenLemmas
 pub mod StageLemmas
 pub mod ChoiceLemmas

@@ -13,109 +13,19 @@ use Rattle.sg_disk.specs.StandsFor.{le32, le64, place_of, entry, HasFields, IsOp
 use Rattle.sg_disk.specs.declared.places.TheConstants.{HEADER_LEN, JOURNAL, SLOT_ZERO, SLOT_ONE, SLOT_LEN, TABLE, ENTRY_LEN, DATA, MAX_FILES, MAX_ROOM}
 use Rattle.sg_disk.proofs.Ranges.{range-range, byte_in}
 use Rattle.sg_disk.proofs.Extents.{extent_of, segments-extent, segments_of-extents}
-use Rattle.sg_placing.specs.Placing.{segment_of, placed_of}
+use Rattle.sg_placing.specs.Placing.{segment_of, placed_of, AreApart}
 use Rattle.sg_placing.specs.declared.placed.Placed.{Placed}
-use Rattle.sg_store.specs.Bytes.{u32_at, u64_at, entries_of}
-use Rattle.sg_store.specs.Slots.{slot_place, slot_of, opposite, head_at, files_of, files_at, spare_at, in_slot, head_number, head_text}
-use Rattle.sg_store.specs.Ready.{whole_files, half_files, taken_files, IsWhole, IsBegun, AreApart, HasStaged, Knows, IsReady, text_length}
+use Rattle.sg_slots.specs.Bytes.{u32_at, u64_at, entries_of}
+use Rattle.sg_slots.specs.Slots.{slot_place, slot_of, opposite, head_at, files_of, files_at, spare_at, in_slot, head_number, head_text}
+use Rattle.sg_store.specs.Ready.{whole_files, half_files, taken_files, IsWhole, IsBegun, HasStaged, Knows, IsReady, text_length}
 use Rattle.sg_store.specs.declared.store.Store.{Store}
 use Rattle.sg_store.specs.declared.store.Half.{Half}
-use Rattle.sg_store.specs.declared.slots.Slot.{Slot}
-use Rattle.sg_store.specs.declared.slots.Slot.TheVariants.{Zero, One}
-use Rattle.sg_store.specs.declared.slots.Head.{Head}
-use Rattle.sg_store.proofs.SlotLemmas.{u32_in_range, head_open, head_closed}
-use Rattle.sg_store.proofs.TableLemmas.{FitsEntry, number_at, long_at, entries_back}
-
--- the gate of a slot
-pub gate_of : (slot : Slot) (c : List ℕ) → get_or (slot_of slot c) 0 0 ≡ get_or c (slot_place slot) 0
-gate_of slot c = let at : slot_place slot + 0 ≡ slot_place slot = omega arith in byte_in c (slot_place slot) SLOT_LEN 0 (omega arith) ∙ ap (λ (k : ℕ). get_or c k 0) at
-
--- a number of a slot
-field_of : (slot : Slot) (c : List ℕ) (p n : ℕ) → p + 4 ≤ SLOT_LEN → n < 2 ^ 32 → range (slot_of slot c) p 4 ≡ le32 n → u32_at c (slot_place slot + p) ≡ n
-field_of slot c p n le lt is = sym (u32_in_range c (slot_place slot) SLOT_LEN p le) ∙ number_at (slot_of slot c) p n lt is
-
--- the head of an open slot
-pub head_stands : (slot : Slot) (c : List ℕ) (number : ℕ) (text : List ℕ) (files : List StoredFile) → number < 2 ^ 32 → length text < 2 ^ 32 → length files < 2 ^ 32 → IsOpen (slot_of slot c) → HasFields number text files (slot_of slot c) → head_at slot c ≡ Some (record { number = number; text = length text; count = length files })
-head_stands slot c number text files number_fits text_fits files_fit opened has =
-    let one : u32_at c (slot_place slot + 4) ≡ number = field_of slot c 4 number (omega arith) number_fits has.number_is in
-    let two : u32_at c (slot_place slot + 8) ≡ length text = field_of slot c 8 (length text) (omega arith) text_fits has.long in
-    let three : u32_at c (slot_place slot + 12) ≡ length files = field_of slot c 12 (length files) (omega arith) files_fit has.count in
-    head_open slot c (sym (gate_of slot c) ∙ opened) ∙ ap (λ (n : ℕ). made n (u32_at c (slot_place slot + 8)) (u32_at c (slot_place slot + 12))) one
-    ∙ ap (λ (n : ℕ). made number n (u32_at c (slot_place slot + 12))) two ∙ ap (λ (n : ℕ). made number (length text) n) three
-  where
-    made : ℕ → ℕ → ℕ → Option Head
-    made number text count = Some (record { number = number; text = text; count = count })
-
--- its files
-pub files_stand : (slot : Slot) (c : List ℕ) (number : ℕ) (text : List ℕ) (files : List StoredFile) (head : Head) → length files ≤ MAX_FILES → All FitsEntry files → head.count ≡ length files → HasFields number text files (slot_of slot c) → files_of slot (Some head) c ≡ map placed_of files
-files_stand slot c number text files head few fit count has =
-    let same : range c (slot_place slot + TABLE) (ENTRY_LEN * length files) ≡ flat_map entry files = sym (range-range c (slot_place slot) SLOT_LEN TABLE (ENTRY_LEN * length files) (omega (arith, few))) ∙ has.table in
-    ap (λ (n : ℕ). entries_of (range c (slot_place slot + TABLE) (ENTRY_LEN * n)) n) count ∙ ap (λ (t : List ℕ). entries_of t (length files)) same ∙ entries_back files fit
-
--- the files of lawful contents, which the disk holds, fit the entries of a table
-pub files_fit : (room number : ℕ) (text : List ℕ) (files : List StoredFile) → room ≤ MAX_ROOM → IsSnapshot room number text files → All (λ f. length f.listed.md5 ≡ 16) files → All FitsEntry files
-files_fit room number text files small snapshot digests k d lt =
-    let f : StoredFile = get_or files k d in
-    let extent : f.segments ≡ extent_of f ∷ [] = segments-extent f (snapshot.extents k d lt) in
-    let inside : IsInside room (get_or f.segments 0 (extent_of f)) = snapshot.inside k d lt 0 (extent_of f) (omega (arith, ap length extent)) in
-    let here : IsInside room (extent_of f) = subst (λ (l : List Segment). IsInside room (get_or l 0 (extent_of f))) extent inside in
-    let ids = snapshot.listed.ids k d lt in
-    let lengths = snapshot.listed.lengths k d lt in
-    record {
-      media = ids.1;
-      long = omega (arith, lengths.1);
-      digest = digests k d lt;
-      place = omega (arith, here.1, small);
-    }
-
--- the digests of files that the disk holds
-pub digests_held : (files : List StoredFile) (area : List ℕ) → AreFiles files area → All (λ f. length f.listed.md5 ≡ 16) files
-digests_held files area held k d lt =
-    let f : StoredFile = get_or files k d in
-    ap length (sym (held k d lt).digest) ∙ length-md5 f.bytes
-
--- the head of the other slot has a lower number
-other_lower : (slot : Slot) (c : List ℕ) (room number : ℕ) → number < 2 ^ 32 → IsOther room number (slot_of slot c) → (head_at slot c ≡ None) ⊎ ((head : Head) × (head_at slot c ≡ Some head) × (head.number < number))
-other_lower slot c room number fits other = elim (cases_eq (get_or c (slot_place slot) 0) 1) [
-  | inr closed ↦ inl (head_closed slot c closed)
-  | inl opened ↦
-      let o = other (gate_of slot c ∙ opened) in
-      inr (
-        record { number = o.0; text = length o.1; count = length o.2 },
-        head_stands slot c o.0 o.1 o.2 (omega (arith, o.3, fits)) (omega (arith, o.5.long.1)) (omega (arith, o.5.listed.few)) (gate_of slot c ∙ opened) o.4,
-        o.3,
-      )
-]
-
--- the slot that is chosen
-chosen_one : (current : Head) (other : Option Head) → (other ≡ None) ⊎ ((head : Head) × (other ≡ Some head) × (head.number < current.number)) → spare_at (Some current) other ≡ One
-chosen_one current other (inl none) = ap (λ (h : Option Head). spare_at (Some current) h) none
-chosen_one current other (inr head) = ap (λ (h : Option Head). spare_at (Some current) h) head.1 ∙ ap (λ (b : Bool). if b then Zero else One) (le-ltb current.number head.0.number (omega (arith, head.2)))
-
-chosen_zero : (other : Option Head) (current : Head) → (other ≡ None) ⊎ ((head : Head) × (other ≡ Some head) × (head.number < current.number)) → spare_at other (Some current) ≡ Zero
-chosen_zero other current (inl none) = ap (λ (h : Option Head). spare_at h (Some current)) none
-chosen_zero other current (inr head) = ap (λ (h : Option Head). spare_at h (Some current)) head.1 ∙ ap (λ (b : Bool). if b then Zero else One) (lt-ltb head.0.number current.number head.2)
-
--- an opening chooses the slot beside the current one
-pub spare_found : (c : List ℕ) (room number : ℕ) (text : List ℕ) (files : List StoredFile) → number < 2 ^ 32 → length text < 2 ^ 32 → length files < 2 ^ 32 → IsCurrent room number text files (slot_of Zero c) (slot_of One c) ⊎ IsCurrent room number text files (slot_of One c) (slot_of Zero c) → IsCurrent room number text files (slot_of (opposite (spare_at (head_at Zero c) (head_at One c))) c) (slot_of (spare_at (head_at Zero c) (head_at One c)) c)
-spare_found c room number text files number_fits text_fits files_fit (inl is) =
-    let head = head_stands Zero c number text files number_fits text_fits files_fit is.gate is.fields in
-    let spare : spare_at (head_at Zero c) (head_at One c) ≡ One = ap (λ (h : Option Head). spare_at h (head_at One c)) head ∙ chosen_one (record { number = number; text = length text; count = length files }) (head_at One c) (other_lower One c room number number_fits is.rest) in
-    subst (λ (s : Slot). IsCurrent room number text files (slot_of (opposite s) c) (slot_of s c)) (sym spare) is
-spare_found c room number text files number_fits text_fits files_fit (inr is) =
-    let head = head_stands One c number text files number_fits text_fits files_fit is.gate is.fields in
-    let spare : spare_at (head_at Zero c) (head_at One c) ≡ Zero = ap (λ (h : Option Head). spare_at (head_at Zero c) h) head ∙ chosen_zero (head_at Zero c) (record { number = number; text = length text; count = length files }) (other_lower Zero c room number number_fits is.rest) in
-    subst (λ (s : Slot). IsCurrent room number text files (slot_of (opposite s) c) (slot_of s c)) (sym spare) is
-
--- a gate is open where its slot has a head
-pub gate_found : (slot : Slot) (c : List ℕ) (opened : Bool) → opened ≡ is_some (head_at slot c) → (opened ≡ true) ↔ IsOpen (slot_of slot c)
-gate_found slot c opened is = elim (cases_eq (get_or c (slot_place slot) 0) 1) [
-  | inl open_now ↦ (λ _. gate_of slot c ∙ open_now, λ _. is ∙ ap (λ (h : Option Head). is_some h) (head_open slot c open_now))
-  | inr closed ↦ (
-    λ yes. absurd (true≢false (sym yes ∙ is ∙ ap (λ (h : Option Head). is_some h) (head_closed slot c closed))),
-    λ open_now. absurd (closed (sym (gate_of slot c) ∙ open_now)),
-  )
-]
+use Rattle.sg_slots.specs.declared.slots.Slot.{Slot}
+use Rattle.sg_slots.specs.declared.slots.Slot.TheVariants.{Zero, One}
+use Rattle.sg_slots.specs.declared.slots.Head.{Head}
+use Rattle.sg_slots.proofs.SlotLemmas.{u32_in_range, head_open, head_closed}
+use Rattle.sg_slots.proofs.TableLemmas.{FitsEntry, number_at, long_at, entries_back}
+use Rattle.sg_slots.proofs.StandLemmas.{gate_of, head_stands, files_stand, files_fit, spare_found, gate_found, apart_placed, in_opposite, in_spare, files_opposite}
 
 -- the bytes of a file that the disk holds are whole
 pub whole_held : (room : ℕ) (c : List ℕ) (f : StoredFile) → IsExtent f → All (IsInside room) f.segments → IsHeld (range c DATA room) f → IsWhole c (placed_of f)
@@ -128,39 +38,6 @@ whole_held room c f is inside held =
     ap (λ (k : ℕ). range c k f.listed.length ++ []) (sym place) ∙ ap (λ (l : List ℕ). l ++ []) (sym (range-range c DATA room (place_of f.segments - DATA) f.listed.length (omega (arith, here.1, here.0))))
     ∙ ap (λ (l : List Segment). bytes_at (range c DATA room) l) (sym extent) ∙ held.there in
     ap md5 bytes ∙ held.digest
-
--- files that stand apart as segments do so as placed files
-pub apart_placed : (files : List StoredFile) → All IsExtent files → AllPairs (λ s t. IsClear t.place t.size s) (segments_of files) → AreApart (map placed_of files)
-apart_placed files extents apart i j d lt below =
-    let far : j < length files = omega (arith, below, length-map files placed_of) in
-    let near : i < length files = omega (arith, lt, far) in
-    let f : StoredFile = get_or files i nothing in
-    let g : StoredFile = get_or files j nothing in
-    let pairs : AllPairs (λ s t. IsClear t.place t.size s) (map extent_of files) = subst (λ (l : List Segment). AllPairs (λ s t. IsClear t.place t.size s) l) (segments_of-extents files extents) apart in
-    let e : Segment = extent_of nothing in
-    let pair = pairs i j e lt (omega (arith, far, length-map files extent_of)) in
-    let first : get_or (map extent_of files) i e ≡ extent_of f = get_or-map extent_of files i nothing e near in
-    let second : get_or (map extent_of files) j e ≡ extent_of g = get_or-map extent_of files j nothing e far in
-    let clear : IsClear (place_of g.segments) g.listed.length (extent_of f) = subst (λ (s : Segment). IsClear (extent_of g).place (extent_of g).size s) first (subst (λ (t : Segment). IsClear t.place t.size (get_or (map extent_of files) i e)) second pair) in
-    let one : get_or (map placed_of files) i d ≡ placed_of f = get_or-map placed_of files i nothing d near in
-    let two : get_or (map placed_of files) j d ≡ placed_of g = get_or-map placed_of files j nothing d far in
-    subst (λ (p : Placed). IsClear (get_or (map placed_of files) j d).place (get_or (map placed_of files) j d).file.length (segment_of p)) (sym one) (subst (λ (q : Placed). IsClear q.place q.file.length (segment_of (placed_of f))) (sym two) clear)
-  where
-    nothing : StoredFile
-    nothing = record { listed = record { media = record { 0 = 0 }; length = 0; md5 = [] }; segments = []; bytes = [] }
-
--- what stands in the slot that isn't spare
-pub in_opposite : (spare : Slot) (c : List ℕ) (first second : Option Head) → first ≡ head_at Zero c → second ≡ head_at One c → in_slot spare second first ≡ head_at (opposite spare) c
-in_opposite Zero c first second one two = two
-in_opposite One c first second one two = one
-
-pub in_spare : (spare : Slot) (c : List ℕ) (first second : Option Head) → first ≡ head_at Zero c → second ≡ head_at One c → in_slot spare first second ≡ head_at spare c
-in_spare Zero c first second one two = one
-in_spare One c first second one two = two
-
-pub files_opposite : (spare : Slot) (c : List ℕ) (first second : List Placed) → first ≡ files_at Zero c → second ≡ files_at One c → in_slot spare second first ≡ files_at (opposite spare) c
-files_opposite Zero c first second one two = two
-files_opposite One c first second one two = one
 
 -- what an opening has read
 pub record Found (s : Store) (c : List ℕ) : Type 0 where
@@ -182,9 +59,9 @@ pub record Snapshot (spare : Slot) (p : Contents) (c : List ℕ) : Type 0 where
   pub files : files_at (opposite spare) c ≡ map placed_of p.files
   pub slot : MatchOption p.text (Unit {0}) (λ text. IsCurrent p.room p.number text p.files (slot_of (opposite spare) c) (slot_of spare c))
 
-found_some : (spare : Slot) (c : List ℕ) (room number : ℕ) (text : List ℕ) (files : List StoredFile) → room ≤ MAX_ROOM → IsSnapshot room number text files → AreFiles files (range c DATA room) → IsCurrent room number text files (slot_of (opposite spare) c) (slot_of spare c) → (head_at (opposite spare) c ≡ Some (record { number = number; text = length text; count = length files })) × (files_at (opposite spare) c ≡ map placed_of files)
-found_some spare c room number text files small snapshot held is =
-    let fit : All FitsEntry files = files_fit room number text files small snapshot (digests_held files (range c DATA room) held) in
+found_some : (spare : Slot) (c : List ℕ) (room number : ℕ) (text : List ℕ) (files : List StoredFile) → room ≤ MAX_ROOM → IsSnapshot room number text files → IsCurrent room number text files (slot_of (opposite spare) c) (slot_of spare c) → (head_at (opposite spare) c ≡ Some (record { number = number; text = length text; count = length files })) × (files_at (opposite spare) c ≡ map placed_of files)
+found_some spare c room number text files small snapshot is =
+    let fit : All FitsEntry files = files_fit room number text files small snapshot in
     let head = head_stands (opposite spare) c number text files snapshot.numbered.1 (omega (arith, snapshot.long.1)) (omega (arith, snapshot.listed.few)) is.gate is.fields in
     (head, ap (λ (h : Option Head). files_of (opposite spare) h c) head ∙ files_stand (opposite spare) c number text files (record { number = number; text = length text; count = length files }) snapshot.listed.few fit refl is.fields)
 
@@ -203,7 +80,7 @@ found_in c p None is small none slots held =
 found_in c p (Some t) is small snapshot slots held =
     let spare : Slot = spare_at (head_at Zero c) (head_at One c) in
     let current = spare_found c p.room p.number t p.files snapshot.numbered.1 (omega (arith, snapshot.long.1)) (omega (arith, snapshot.listed.few)) slots in
-    let both = found_some spare c p.room p.number t p.files small snapshot held current in
+    let both = found_some spare c p.room p.number t p.files small snapshot current in
     record {
       number = ap head_number both.0;
       text = ap head_text both.0 ∙ sym (ap text_length is);

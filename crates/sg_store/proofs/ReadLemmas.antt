@@ -13,7 +13,7 @@ use Rattle.sg_disk.proofs.Writes.{one_quiet}
 use Rattle.sg_disk.proofs.Extents.{extent_of, segments-extent}
 use Rattle.sg_placing.specs.Placing.{placed_of}
 use Rattle.sg_placing.specs.declared.placed.Placed.{Placed}
-use Rattle.sg_store.specs.Slots.{slot_place, slot_of, opposite}
+use Rattle.sg_slots.specs.Slots.{slot_place, slot_of, opposite}
 use Rattle.sg_store.specs.Ready.{Knows, HasStaged, IsReady}
 use Rattle.sg_store.specs.declared.store.Store.{Store}
 use Rattle.sg_store.proofs.OpenLemmas.{extents_of}

@@ -20,13 +20,13 @@ use Rattle.sg_disk.proofs.Writes.{one_kept, bytes_kept, within_wider}
 use Rattle.sg_disk.proofs.Standing.{settled_read, settled_leaves}
 use Rattle.sg_disk.proofs.Extents.{clear_extents}
 use Rattle.sg_disk.proofs.Areas.{staged}
-use Rattle.sg_store.specs.Slots.{slot_of, opposite}
-use Rattle.sg_store.specs.declared.slots.Slot.{Slot}
-use Rattle.sg_store.specs.declared.slots.Slot.TheVariants.{Zero, One}
+use Rattle.sg_slots.specs.Slots.{slot_of, opposite}
+use Rattle.sg_slots.specs.declared.slots.Slot.{Slot}
+use Rattle.sg_slots.specs.declared.slots.Slot.TheVariants.{Zero, One}
 use Rattle.sg_store.proofs.OpenLemmas.{extents_of}
-use Rattle.sg_placing.specs.Placing.{segment_of, placed_of, IsPlaced, IsFree, IsLongest}
+use Rattle.sg_placing.specs.Placing.{segment_of, placed_of, IsPlaced, IsFree, IsLongest, AreApart}
 use Rattle.sg_placing.specs.declared.placed.Placed.{Placed}
-use Rattle.sg_store.specs.Ready.{whole_files, half_files, taken_files, IsWhole, IsBegun, AreApart, HasStaged, KeepsSnapshot, Knows, IsHalf, IsReady}
+use Rattle.sg_store.specs.Ready.{whole_files, half_files, taken_files, IsWhole, IsBegun, HasStaged, KeepsSnapshot, Knows, IsHalf, IsReady}
 use Rattle.sg_store.specs.declared.store.Store.{Store}
 use Rattle.sg_store.specs.declared.store.Half.{Half}
 

@@ -11,13 +11,13 @@ use Rattle.sg_disk.proofs.Moments.{weaker, at_end}
 use Rattle.sg_disk.proofs.Standing.{open_cases}
 use Rattle.sg_disk.proofs.Areas.{fields_kept, reslotted}
 use Rattle.sg_disk.proofs.Gates.{closed_other, other_torn}
-use Rattle.sg_store.specs.Slots.{slot_place, slot_of, opposite}
+use Rattle.sg_slots.specs.Slots.{slot_place, slot_of, opposite}
 use Rattle.sg_store.specs.Ready.{IsReady}
 use Rattle.sg_store.specs.declared.store.Store.{Store}
-use Rattle.sg_store.specs.declared.slots.Slot.{Slot}
-use Rattle.sg_store.specs.declared.slots.Slot.TheVariants.{Zero, One}
-use Rattle.sg_store.proofs.SlotLemmas.{place_high}
-use Rattle.sg_store.proofs.OpenLemmas.{gate_of}
+use Rattle.sg_slots.specs.declared.slots.Slot.{Slot}
+use Rattle.sg_slots.specs.declared.slots.Slot.TheVariants.{Zero, One}
+use Rattle.sg_slots.proofs.SlotLemmas.{place_high}
+use Rattle.sg_slots.proofs.StandLemmas.{gate_of}
 
 -- a snapshot in the one slot beside the other, or both closed
 abbrev pub Stand : ℕ → ℕ → Option (List ℕ) → List StoredFile → List ℕ → List ℕ → Type 0

@@ -1,4 +1,1 @@
-pub mod Bytes
-pub mod Slots
-pub mod Damage
 pub mod Ready

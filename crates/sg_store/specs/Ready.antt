@@ -8,9 +8,9 @@ use Rattle.sg_disk.specs.Runs.{HasOne}
 use Rattle.sg_disk.specs.Contents.{Segment, StoredFile, Contents, IsClear}
 use Rattle.sg_disk.specs.StandsFor.{IsOpen, IsCurrent, Settled}
 use Rattle.sg_disk.specs.declared.places.TheConstants.{JOURNAL}
-use Rattle.sg_placing.specs.Placing.{segment_of, segments_of_placed, placed_of, same_file}
+use Rattle.sg_placing.specs.Placing.{segment_of, segments_of_placed, placed_of, AreApart, same_file}
 use Rattle.sg_placing.specs.declared.placed.Placed.{Placed}
-use Rattle.sg_store.specs.Slots.{slot_of, opposite}
+use Rattle.sg_slots.specs.Slots.{slot_of, opposite}
 use Rattle.sg_store.specs.declared.store.Store.{Store}
 use Rattle.sg_store.specs.declared.store.Half.{Half}
 
@@ -38,10 +38,6 @@ IsWhole c p = md5 (bytes_in c (segments_of_placed p)) ≡ p.file.md5
 -- the bytes that have come of a half staged file stand at the front of its place
 abbrev pub IsBegun : List ℕ → Half → Type 0
 IsBegun c half = Holds half.hasher (range c half.placed.place half.count)
-
--- no byte belongs to two files
-abbrev pub AreApart : List Placed → Type 0
-AreApart files = AllPairs (λ p q. IsClear q.place q.file.length (segment_of p)) files
 
 abbrev pub text_length : Option (List ℕ) → ℕ
 text_length None = 0

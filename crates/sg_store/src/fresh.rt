@@ -4,13 +4,12 @@ ghost use Rattle.sg_disk.specs.View.{put, Torn, Sized, Only};
 ghost use Rattle.sg_disk.specs.Runs.{Ran, Broke};
 ghost use Rattle.sg_disk.specs.Contents.{IsRoom, fresh};
 ghost use Rattle.sg_disk.specs.StandsFor.{Settled};
-ghost use Rattle.sg_store.specs.Bytes.{header_fields, AreZeros};
+ghost use Rattle.sg_slots.specs.Bytes.{header_fields, AreZeros};
 
-use crate::formats::Format;
-use crate::header::header_fields_of;
 use sg_disk::{
     DATA, Disk, DiskFailed, FORMAT_CALLS, JOURNAL, JOURNAL_LEN, SLOT_ONE, SLOT_ZERO, write_synced,
 };
+use sg_slots::{Format, header_fields_of};
 
 // The zeros of one write over the journal, which is that many times this long.
 const PIECE: usize = 16_384;
@@ -31,6 +30,8 @@ pub fn format<D: Disk>(disk: &mut D, format: &Format) -> Result<(), DiskFailed>
     ensures ran { OnOk result (Ran FORMAT_CALLS (D.view disk.old) (D.view disk.new)) }
     ensures broke { OnErr result (Broke (D.view disk.old) (D.view disk.new)) }
 {
+    // The display is read for the proof, which learns its range there.
+    let _display = format.display;
     close_header(disk)?;
     disk.resize(DATA + format.room)?;
     clear(disk)?;

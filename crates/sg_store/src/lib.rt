@@ -7,30 +7,22 @@
 //! what another crate knows of the rest of the disk stays. Each call over a disk also says what a crash at any moment of it
 //! leaves (`any_moment`), when it fails (`broke`), and how many calls at least it makes where it passes (`ran`).
 //!
-//! `specs/Bytes.antt` has the bytes of a header, a slot and a table; `specs/Slots.antt` the two slots, of which one is
-//! current and the other spare; `specs/Damage.antt` what an opening refuses, check by check. Where a file goes is the part of
-//! `sg_placing`. All memory is taken by `Store::open`.
+//! What the header and the two slots say, and what an opening refuses, is the part of `sg_slots`; where a file goes is the
+//! part of `sg_placing`. All memory is taken by `Store::open`.
 #![tactic(auto)]
 
 mod choice;
-mod entries;
 mod faults;
-mod formats;
 mod fresh;
-mod header;
 mod opening;
-mod overlaps;
 mod reading;
-mod slot_reads;
-mod slot_writes;
-mod slots;
 mod staging;
 mod store;
 mod switching;
 
-pub use faults::{DigestDiffers, NoSpace, OpenFault, SwitchFault};
-pub use formats::Format;
+pub use faults::{DigestDiffers, NoSpace, SwitchFault};
 pub use fresh::format;
+pub use sg_slots::{Format, OpenFault};
 pub use store::Store;
 
 #[cfg(test)]

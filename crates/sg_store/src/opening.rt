@@ -6,20 +6,15 @@ ghost use Rattle.sg_disk.specs.Runs.{LeavesOnly, Ran, Broke, Quiet};
 ghost use Rattle.sg_disk.specs.Contents.{Contents};
 ghost use Rattle.sg_disk.specs.StandsFor.{StandsFor, StandsForOne, Two, Between};
 ghost use Rattle.sg_placing.specs.Placing.{IsPlaced};
-ghost use Rattle.sg_store.specs.Bytes.{u32_at, u64_at};
-ghost use Rattle.sg_store.specs.Slots.{slot_place, head_at, files_at, spare_at, in_slot, head_number, head_text};
-ghost use Rattle.sg_store.specs.Damage.{slot_damage, twin_damage, overlap_damage, slots_damage, damage_of};
+ghost use Rattle.sg_slots.specs.Bytes.{u32_at, u64_at};
+ghost use Rattle.sg_slots.specs.Slots.{slot_place, head_at, files_at, spare_at, in_slot, head_number, head_text};
+ghost use Rattle.sg_slots.specs.Damage.{slot_damage, twin_damage, overlap_damage, slots_damage, damage_of};
 ghost use Rattle.sg_store.specs.Ready.{IsReady};
 
-use crate::faults::OpenFault;
-use crate::formats::Format;
-use crate::header::read_header;
-use crate::overlaps::check_apart;
-use crate::slot_reads::read_slot;
-use crate::slots::{Head, Slot};
 use crate::store::Store;
-use sg_disk::{DATA, Disk, MAX_FILES, MAX_ROOM, MAX_TEXT, OPEN_CALLS, SLOT_ONE, TABLE};
+use sg_disk::{DATA, Disk, MAX_ROOM, MAX_TEXT, OPEN_CALLS};
 use sg_placing::Shelf;
+use sg_slots::{Format, OpenFault, Slot, SlotPair, read_header, read_slots};
 use std::alloc::{AllocError, Global};
 
 // All the memory that a store takes.
@@ -45,76 +40,8 @@ impl Rooms {
     }
 }
 
-// What both slots say.
-#[derive(Clone, Copy)]
-struct Slots {
-    zero: Option<Head>,
-    one: Option<Head>,
-    // The one that a switch writes.
-    spare: Slot,
-}
-
-// Chooses the slot that a switch writes: one whose gate is closed, or the one of the lower number.
-fn choose(zero: &Option<Head>, one: &Option<Head>) -> Result<Slot, OpenFault>
-    ensures damaged { (place found : ℕ) → IsErrOf result (OpenFault.Damaged place found) → twin_damage zero.now one.now ≡ Some (record { place = place; found = found }) }
-    ensures only { OnErr result ((place : ℕ) × (found : ℕ) × IsErrOf result (OpenFault.Damaged place found)) }
-    ensures sound { OnOk result (twin_damage zero.now one.now ≡ None) }
-    ensures spare { IfOk result (λ s. s ≡ spare_at zero.now one.now) }
-{
-    match (zero, one) {
-        (None, _) => Ok(Slot::Zero),
-        (Some(_), None) => Ok(Slot::One),
-        (Some(zero), Some(one)) => {
-            if zero.number == one.number {
-                return Err(OpenFault::Damaged {
-                    place: SLOT_ONE + 4,
-                    found: u64::from(one.number),
-                });
-            }
-            if zero.number < one.number {
-                Ok(Slot::Zero)
-            } else {
-                Ok(Slot::One)
-            }
-        }
-    }
-}
-
-// Reads both slots, and looks at each check that an opening makes of them.
-fn read_slots<D: Disk>(disk: &mut D, room: u64, rooms: &mut Rooms) -> Result<Slots, OpenFault>
-    requires disk { DATA ≤ (D.view disk.old).size }
-    requires room { room ≤ MAX_ROOM }
-    requires table { 16384 ≤ vec_capacity rooms.old.table }
-    ensures damaged { (place found : ℕ) → IsErrOf result (OpenFault.Damaged place found) → (D.view disk.old).told → slots_damage room (D.view disk.old).bytes ≡ Some (record { place = place; found = found }) }
-    ensures broke { IsErrOf result OpenFault.Disk → Broke (D.view disk.old) (D.view disk.new) }
-    ensures formatted { IsErrOf result OpenFault.Unformatted → ⊥ }
-    ensures memory { IsErrOf result OpenFault.Memory → ⊥ }
-    ensures sound { OnOk result ((D.view disk.old).told → slots_damage room (D.view disk.old).bytes ≡ None) }
-    ensures zero { IfOk result (λ s. (D.view disk.old).told → s.zero ≡ head_at Slot.Zero (D.view disk.old).bytes) }
-    ensures one { IfOk result (λ s. (D.view disk.old).told → s.one ≡ head_at Slot.One (D.view disk.old).bytes) }
-    ensures spare { IfOk result (λ s. s.spare ≡ spare_at s.zero s.one) }
-    ensures zero_text { IfOk result (λ s. ForSome s.zero (λ h. h.text ≤ MAX_TEXT)) }
-    ensures one_text { IfOk result (λ s. ForSome s.one (λ h. h.text ≤ MAX_TEXT)) }
-    ensures zero_files { OnOk result ((D.view disk.old).told → rooms.new.zero ≡ files_at Slot.Zero (D.view disk.old).bytes) }
-    ensures one_files { OnOk result ((D.view disk.old).told → rooms.new.one ≡ files_at Slot.One (D.view disk.old).bytes) }
-    ensures zero_placed { OnOk result (All (IsPlaced room) rooms.new.zero) }
-    ensures one_placed { OnOk result (All (IsPlaced room) rooms.new.one) }
-    ensures staged { rooms.new.staged ≡ rooms.old.staged }
-    ensures table { 16384 ≤ vec_capacity rooms.new.table }
-    ensures quiet { OnOk result (Quiet 0 (D.view disk.old) (D.view disk.new)) }
-    ensures any_moment { LeavesOnly (D.view disk.old).images (D.view disk.old) (D.view disk.new) }
-    ensures size { (D.view disk.new).size ≡ (D.view disk.old).size }
-{
-    let zero = read_slot(disk, Slot::Zero, room, &mut rooms.table, &mut rooms.zero)?;
-    let one = read_slot(disk, Slot::One, room, &mut rooms.table, &mut rooms.one)?;
-    let spare = choose(&zero, &one)?;
-    check_apart(Slot::Zero, rooms.zero.as_slice())?;
-    check_apart(Slot::One, rooms.one.as_slice())?;
-    Ok(Slots { zero, one, spare })
-}
-
 // Puts a store together from what was read.
-fn assemble(header: Format, slots: Slots, rooms: Rooms) -> Store
+fn assemble(header: Format, slots: SlotPair, rooms: Rooms) -> Store
     requires room { header.room ≤ MAX_ROOM }
     requires zero_text { ForSome slots.zero (λ h. h.text ≤ MAX_TEXT) }
     requires one_text { ForSome slots.one (λ h. h.text ≤ MAX_TEXT) }
@@ -191,7 +118,13 @@ impl Store {
     {
         let mut rooms = Rooms::reserve(alloc)?;
         let header = read_header(disk)?;
-        let slots = read_slots(disk, header.room, &mut rooms)?;
+        let slots = read_slots(
+            disk,
+            header.room,
+            &mut rooms.table,
+            &mut rooms.zero,
+            &mut rooms.one,
+        )?;
         Ok(assemble(header, slots, rooms))
     }
 }

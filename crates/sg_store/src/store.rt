@@ -4,10 +4,10 @@ ghost use Rattle.sg_placing.specs.declared.placed.Placed.{Placed};
 ghost use Rattle.std.specs.Option.{ForSome};
 ghost use Rattle.sg_placing.specs.Placing.{IsPlaced};
 
-use crate::slots::Slot;
 use md5::Md5;
 use sg_base::Listed;
 use sg_placing::{Placed, Shelf};
+use sg_slots::Slot;
 
 /// A file of which a part is staged.
 #[derive(Drop)]

@@ -4,16 +4,16 @@ ghost use Rattle.sg_disk.specs.Runs.{LeavesOnly, Ran, Broke, Within};
 ghost use Rattle.sg_disk.specs.Contents.{Contents, switched};
 ghost use Rattle.sg_disk.specs.StandsFor.{StandsFor, Either, Two, Between, HasOneJournal};
 ghost use Rattle.sg_placing.specs.Placing.{IsPlaced};
-ghost use Rattle.sg_store.specs.Bytes.{table_bytes};
-ghost use Rattle.sg_store.specs.Slots.{opposite};
+ghost use Rattle.sg_slots.specs.Bytes.{table_bytes};
+ghost use Rattle.sg_slots.specs.Slots.{opposite};
 ghost use Rattle.sg_store.specs.Ready.{whole_files, chosen, is_held, stored_files, KeepsSnapshot, IsReady};
 
 use crate::choice::choose_files;
 use crate::faults::SwitchFault;
-use crate::slot_writes::{fill_slot, fill_table, head_fields_of};
 use crate::store::Store;
 use sg_base::Listed;
 use sg_disk::{DATA, Disk, MAX_FILES, MAX_TEXT, SLOT_ZERO, SWITCH_CALLS, close_gate, write_synced};
+use sg_slots::{fill_slot, fill_table, head_fields_of};
 use std::mem;
 
 impl Store {

@@ -6,7 +6,7 @@ use Rattle.sg_disk.proofs.Moments.{quiet_none}
 use Rattle.sg_journal.specs.declared.fault.OpenFault.{OpenFault}
 use Rattle.sg_journal.specs.declared.reading.TheConstants.{PIECE_LEN, PIECE_RECORDS}
 use Rattle.sg_journal.specs.Entries.{AreRead}
-use Rattle.sg_journal.proofs.DiskLemmas.{range_none}
+use Rattle.sg_disk.proofs.Parts.{range_none}
 use Rattle.sg_journal.proofs.ReadLemmas.{read_none, front_more, quiet_more, broke_more, ended_passed, wrong_in_front}
 use Rattle.sg_journal.proofs.reading.read_pieces.Goals as goal
 

@@ -1,6 +1,6 @@
 use Rattle.std.proofs.Common.{◌+◌, ◌≤◌, length, ap, arith}
 use Rattle.sg_disk.specs.declared.places.TheConstants.{MAX_TEXT}
-use Rattle.sg_store.specs.Slots.{slot_place}
+use Rattle.sg_slots.specs.Slots.{slot_place}
 use Rattle.sg_store.specs.Ready.{text_length}
 use Rattle.sg_store.proofs.ReadLemmas.{text_at}
 use Rattle.sg_store.proofs.store.Store.manifest_place.Goals as goal

@@ -2,11 +2,12 @@ use Rattle.std.proofs.Common.{◌≡◌, ℕ, List, Option, is_some, ◌∙◌, 
 use Rattle.sg_disk.proofs.Moments.{quiet_only, weaker, unchanged_joined}
 use Rattle.sg_disk.proofs.Standing.{between_read}
 use Rattle.sg_disk.specs.StandsFor.{StandsForOne, Two}
-use Rattle.sg_store.specs.Slots.{head_at, files_at, spare_at, opposite, head_number, head_text}
-use Rattle.sg_store.specs.declared.slots.Head.{Head}
-use Rattle.sg_store.specs.declared.slots.Slot.{Slot}
-use Rattle.sg_store.specs.declared.slots.Slot.TheVariants.{Zero, One}
-use Rattle.sg_store.proofs.OpenLemmas.{Found, in_opposite, in_spare, files_opposite, opened}
+use Rattle.sg_slots.specs.Slots.{head_at, files_at, spare_at, opposite, head_number, head_text}
+use Rattle.sg_slots.specs.declared.slots.Head.{Head}
+use Rattle.sg_slots.specs.declared.slots.Slot.{Slot}
+use Rattle.sg_slots.specs.declared.slots.Slot.TheVariants.{Zero, One}
+use Rattle.sg_slots.proofs.StandLemmas.{in_opposite, in_spare, files_opposite}
+use Rattle.sg_store.proofs.OpenLemmas.{Found, opened}
 use Rattle.sg_store.proofs.store.Store.open.Goals as goal
 
 pub returns-clause-ready : goal.returns-clause-ready
@@ -33,7 +34,7 @@ returns-clause-ready g c p told stands =
       gate = c.assemble.ensures.gate ∙ ap is_some (in_spare chosen v.bytes c.in_ok-slots.slots.zero c.in_ok-slots.slots.one zero one) ∙ ap (λ (x : Slot). is_some (head_at x v.bytes)) (sym spare);
       number = c.assemble.ensures.number ∙ ap head_number (in_opposite chosen v.bytes c.in_ok-slots.slots.zero c.in_ok-slots.slots.one zero one) ∙ ap (λ (x : Slot). head_number (head_at (opposite x) v.bytes)) (sym spare);
       text = c.assemble.ensures.text ∙ ap head_text (in_opposite chosen v.bytes c.in_ok-slots.slots.zero c.in_ok-slots.slots.one zero one) ∙ ap (λ (x : Slot). head_text (head_at (opposite x) v.bytes)) (sym spare);
-      files = c.assemble.ensures.files ∙ files_opposite chosen v.bytes c.read_slots.new.rooms.zero c.read_slots.new.rooms.one zero_files one_files ∙ ap (λ (x : Slot). files_at (opposite x) v.bytes) (sym spare);
+      files = c.assemble.ensures.files ∙ files_opposite chosen v.bytes c.read_slots.new.zero_files c.read_slots.new.one_files zero_files one_files ∙ ap (λ (x : Slot). files_at (opposite x) v.bytes) (sym spare);
       staged = c.assemble.ensures.staged;
       half = c.assemble.ensures.half;
     } in

@@ -8,11 +8,11 @@ use Rattle.sg_disk.proofs.Moments.{weaker, joined}
 use Rattle.sg_disk.proofs.Writes.{within_wider, within_joined, one_kept}
 use Rattle.sg_disk.proofs.Standing.{between_after, either_one}
 use Rattle.sg_placing.specs.Placing.{IsPlaced}
-use Rattle.sg_store.specs.Bytes.{head_fields}
-use Rattle.sg_store.specs.Slots.{slot_place, opposite}
+use Rattle.sg_slots.specs.Bytes.{head_fields}
+use Rattle.sg_slots.specs.Slots.{slot_place, opposite}
 use Rattle.sg_store.specs.Ready.{whole_files, stored_files}
-use Rattle.sg_store.specs.declared.slots.Slot.{Slot}
-use Rattle.sg_store.proofs.SlotLemmas.{place_high}
+use Rattle.sg_slots.specs.declared.slots.Slot.{Slot}
+use Rattle.sg_slots.proofs.SlotLemmas.{place_high}
 use Rattle.sg_store.proofs.ChoiceLemmas.{chosen_placed}
 use Rattle.sg_store.proofs.SwitchLemmas.{place_low, closing, closed_after, filling, opening}
 use Rattle.sg_store.proofs.FillLemmas.{Asks, TakesOver, whole_placed, filled_by, ready_switched}

@@ -1,0 +1,5 @@
+pub mod SlotLemmas
+pub mod HeaderLemmas
+pub mod OverlapLemmas
+pub mod TableLemmas
+pub mod StandLemmas

@@ -1,9 +1,0 @@
-use Rattle.std.proofs.Common.{ℕ, ◌+◌, List, refl, ◌∙◌, ap}
-use Rattle.std.specs.Int.{w64, from_le_bytes}
-use Rattle.sg_store.specs.Bytes.{u64_at}
-use Rattle.sg_store.proofs.DiskLemmas.{part_range}
-use Rattle.sg_store.proofs.entries.u64_in.Goals as goal
-
-pub returns : goal.returns
-unfolding u64_at
-returns c = c.from_le_bytes.ensures ∙ ap (λ (l : List ℕ). from_le_bytes w64 l) (c.copy_from_slice.ensures.after ∙ part_range c.args.bytes.now c.args.place (c.args.place + 8) 8 refl)

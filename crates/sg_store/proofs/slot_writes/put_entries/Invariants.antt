@@ -1,7 +1,0 @@
-use Rattle.std.proofs.Common.{◌≡◌, ◌*◌, ◌≤◌, take, vec_len, vec_capacity}
-use Rattle.std.specs.List.{flat_map}
-use Rattle.sg_store.specs.Bytes.{placed_entry}
-use Rattle.sg_store.proofs.slot_writes.put_entries.Given as goal
-
-abbrev pub invariant-loop-placed : goal.invariant-loop-placed
-invariant-loop-placed l = (l.table.items ≡ flat_map placed_entry (take l.placed-index l.files)) × (vec_len l.table ≡ 32 * l.placed-index) × (16384 ≤ vec_capacity l.table)
