@@ -1,7 +1,9 @@
 pub mod FreshLemmas
 pub mod OpenLemmas
+pub mod FileLemmas
 pub mod StageLemmas
 pub mod ChoiceLemmas
+pub mod WholeLemmas
 pub mod SwitchLemmas
 pub mod FillLemmas
 pub mod ReadLemmas

@@ -1,31 +1,28 @@
 -- What an opening finds on a disk that stands for contents.
-use Rattle.std.proofs.Common.{◌≡◌, ◌⊎◌, inl, inr, ℕ, ◌+◌, ◌-◌, ◌*◌, ◌^◌, ◌<◌, ◌≤◌, ◌↔◌, Bool, true, List, [], ◌∷◌, ◌++◌, length, get_or, map, Option, None, Some, MatchOption, is_some, if◌then◌else◌, All, AllPairs, IfSome, refl, sym, ◌∙◌, ap, subst, arith, zero-add}
-use Rattle.std.specs.List.{flat_map}
-use Rattle.std.proofs.lemmas.Bool.{cases_eq, lt-ltb, le-ltb, true≢false}
+use Rattle.std.proofs.Common.{◌≡◌, ℕ, ◌+◌, ◌-◌, ◌^◌, ◌<◌, ◌≤◌, List, [], ◌∷◌, ◌++◌, length, get_or, map, Option, None, Some, MatchOption, is_some, All, AllPairs, IfSome, refl, sym, ◌∙◌, ap, subst, arith, zero-add}
 use Rattle.std.proofs.lemmas.List.{append-nil, length-map, get_or-map}
 use Rattle.md5.specs.Md5.{md5}
-use Rattle.md5.proofs.StandardFacts.{length-md5}
 use Rattle.sg_disk.specs.View.{View, range, Only}
 use Rattle.sg_disk.proofs.Standing.{settled_by, lawful_inside}
 use Rattle.sg_disk.proofs.Writes.{one_stable}
 use Rattle.sg_disk.specs.Contents.{Segment, StoredFile, Contents, IsClear, IsInside, IsExtent, IsSnapshot, IsLawful, segments_of}
-use Rattle.sg_disk.specs.StandsFor.{le32, le64, place_of, entry, HasFields, IsOpen, IsOther, IsCurrent, AreSlots, IsHeld, AreFiles, bytes_at, StandsFor}
-use Rattle.sg_disk.specs.declared.places.TheConstants.{HEADER_LEN, JOURNAL, SLOT_ZERO, SLOT_ONE, SLOT_LEN, TABLE, ENTRY_LEN, DATA, MAX_FILES, MAX_ROOM}
-use Rattle.sg_disk.proofs.Ranges.{range-range, byte_in}
-use Rattle.sg_disk.proofs.Extents.{extent_of, segments-extent, segments_of-extents}
-use Rattle.sg_placing.specs.Placing.{segment_of, placed_of, AreApart}
+use Rattle.sg_disk.specs.StandsFor.{le32, le64, place_of, IsCurrent, AreSlots, IsHeld, AreFiles, bytes_at, StandsFor}
+use Rattle.sg_disk.specs.declared.places.TheConstants.{HEADER_LEN, JOURNAL, SLOT_ZERO, SLOT_ONE, SLOT_LEN, DATA, MAX_ROOM}
+use Rattle.sg_disk.proofs.Ranges.{range-range}
+use Rattle.sg_disk.proofs.Extents.{extent_of, segments-extent}
+use Rattle.sg_placing.specs.Placing.{placed_of, AreApart}
 use Rattle.sg_placing.specs.declared.placed.Placed.{Placed}
-use Rattle.sg_slots.specs.Bytes.{u32_at, u64_at, entries_of}
-use Rattle.sg_slots.specs.Slots.{slot_place, slot_of, opposite, head_at, files_of, files_at, spare_at, in_slot, head_number, head_text}
+use Rattle.sg_slots.specs.Bytes.{u32_at, u64_at}
+use Rattle.sg_slots.specs.Slots.{slot_of, opposite, head_at, files_of, files_at, spare_at, head_number, head_text}
 use Rattle.sg_store.specs.Ready.{whole_files, half_files, taken_files, IsWhole, IsBegun, HasStaged, Knows, IsReady, text_length}
 use Rattle.sg_store.specs.declared.store.Store.{Store}
 use Rattle.sg_store.specs.declared.store.Half.{Half}
 use Rattle.sg_slots.specs.declared.slots.Slot.{Slot}
 use Rattle.sg_slots.specs.declared.slots.Slot.TheVariants.{Zero, One}
 use Rattle.sg_slots.specs.declared.slots.Head.{Head}
-use Rattle.sg_slots.proofs.SlotLemmas.{u32_in_range, head_open, head_closed}
-use Rattle.sg_slots.proofs.TableLemmas.{FitsEntry, number_at, long_at, entries_back}
-use Rattle.sg_slots.proofs.StandLemmas.{gate_of, head_stands, files_stand, files_fit, spare_found, gate_found, apart_placed, in_opposite, in_spare, files_opposite}
+use Rattle.sg_slots.proofs.SlotLemmas.{head_closed}
+use Rattle.sg_slots.proofs.TableLemmas.{FitsEntry, number_at, long_at}
+use Rattle.sg_slots.proofs.StandLemmas.{gate_of, head_stands, files_stand, files_fit, spare_found, gate_found, apart_placed}
 
 -- the bytes of a file that the disk holds are whole
 pub whole_held : (room : ℕ) (c : List ℕ) (f : StoredFile) → IsExtent f → All (IsInside room) f.segments → IsHeld (range c DATA room) f → IsWhole c (placed_of f)

@@ -1,22 +1,22 @@
 -- What the snapshot reads back as.
-use Rattle.std.proofs.Common.{◌≡◌, inl, inr, ℕ, suc, ◌+◌, ◌-◌, ◌<◌, ◌≤◌, ◌==◌, Bool, true, cond, List, [], ◌∷◌, length, get_or, find, Option, None, Some, MatchOption, All, AllPairs, Contains, IsSomeAnd, refl, sym, ◌∙◌, ap, subst, arith}
+use Rattle.std.proofs.Common.{◌≡◌, inl, inr, ℕ, suc, ◌+◌, ◌<◌, ◌≤◌, ◌==◌, Bool, true, cond, List, [], ◌∷◌, length, get_or, find, Option, None, Some, MatchOption, All, AllPairs, Contains, IsSomeAnd, refl, sym, ◌∙◌, ap, subst, arith}
 use Rattle.std.proofs.lemmas.Bool.{cases_Bool, cases_lt, eqb-true}
 use Rattle.std.proofs.lemmas.List.{append-nil, length-map, get_or-map}
 use Rattle.sg_disk.specs.View.{View, range}
 use Rattle.sg_disk.specs.Runs.{Quiet}
-use Rattle.sg_disk.specs.Contents.{Segment, StoredFile, Contents, IsInside, IsExtent, IsSnapshot}
-use Rattle.sg_disk.specs.StandsFor.{place_of, IsCurrent, IsHeld, bytes_at, StandsFor}
+use Rattle.sg_disk.specs.Contents.{StoredFile, Contents, IsInside, IsExtent, IsSnapshot}
+use Rattle.sg_disk.specs.StandsFor.{place_of, IsCurrent, IsHeld, StandsFor}
 use Rattle.sg_disk.specs.declared.places.TheConstants.{SLOT_LEN, TEXT, DATA, JOURNAL, MAX_TEXT}
 use Rattle.sg_disk.proofs.Ranges.{range-range}
 use Rattle.sg_disk.proofs.Standing.{settled_quiet, lawful_inside}
 use Rattle.sg_disk.proofs.Writes.{one_quiet}
-use Rattle.sg_disk.proofs.Extents.{extent_of, segments-extent}
 use Rattle.sg_placing.specs.Placing.{placed_of}
 use Rattle.sg_placing.specs.declared.placed.Placed.{Placed}
 use Rattle.sg_slots.specs.Slots.{slot_place, slot_of, opposite}
-use Rattle.sg_store.specs.Ready.{Knows, HasStaged, IsReady}
+use Rattle.sg_store.specs.Ready.{file_at, Knows, HasStaged, IsReady}
 use Rattle.sg_store.specs.declared.store.Store.{Store}
 use Rattle.sg_store.proofs.OpenLemmas.{extents_of}
+use Rattle.sg_store.proofs.WholeLemmas.{file_stands}
 
 -- a snapshot stands in the slot that isn't spare
 current_of : (text : Option (List ℕ)) (t : List ℕ) (P : List ℕ → Type 0) → text ≡ Some t → MatchOption text (Unit {0}) P → P t
@@ -84,16 +84,11 @@ file_bytes s p c f q media offset n stands knows found has id fits =
     let same : k ≡ j = same_place p.files k j f (ascending_in p.room p.number p.text p.files stands.lawful.snapshot) near has.1 ids in
     let is : q ≡ placed_of f = q_is ∙ ap (λ (i : ℕ). placed_of (get_or p.files i f)) same ∙ ap placed_of here in
     let held : IsHeld (range c DATA p.room) f = subst (IsHeld (range c DATA p.room)) here (stands.files j f has.1) in
-    let extent : f.segments ≡ extent_of f ∷ [] = segments-extent f (subst (λ (x : StoredFile). IsExtent x) here (extents_of p stands.lawful j f has.1)) in
-    let inside : IsInside p.room (extent_of f) = inside_of_extent f p.room extent (subst (λ (x : StoredFile). All (IsInside p.room) x.segments) here (lawful_inside p stands.lawful j f has.1)) in
-    let place : DATA + (place_of f.segments - DATA) ≡ place_of f.segments = omega (arith, inside.0) in
-    let bytes : range c (place_of f.segments) f.listed.length ≡ f.bytes =
-    sym (ap (λ (i : ℕ). range c i f.listed.length) place) ∙ sym (range-range c DATA p.room (place_of f.segments - DATA) f.listed.length (omega (arith, inside.1, inside.0))) ∙ sym (append-nil (range (range c DATA p.room) (place_of f.segments - DATA) f.listed.length)) ∙ ap (λ (l : List Segment). bytes_at (range c DATA p.room) l) (sym extent) ∙ held.there in
+    let inside : All (IsInside p.room) f.segments = subst (λ (x : StoredFile). All (IsInside p.room) x.segments) here (lawful_inside p stands.lawful j f has.1) in
+    let stands_at : file_at c (placed_of f) ≡ f = file_stands p.room c f (subst (λ (x : StoredFile). IsExtent x) here (extents_of p stands.lawful j f has.1)) inside held in
+    let bytes : range c (place_of f.segments) f.listed.length ≡ f.bytes = sym (append-nil (range c (place_of f.segments) f.listed.length)) ∙ ap (λ (x : StoredFile). x.bytes) stands_at in
     let room : offset + n ≤ f.listed.length = omega (arith, fits, ap (λ (x : Placed). x.file.length) is) in
     ap (λ (x : Placed). range c (x.place + offset) n) is ∙ sym (range-range c (place_of f.segments) f.listed.length offset n room) ∙ ap (λ (l : List ℕ). range l offset n) bytes
-  where
-    inside_of_extent : (f : StoredFile) (room : ℕ) → f.segments ≡ extent_of f ∷ [] → All (IsInside room) f.segments → IsInside room (extent_of f)
-    inside_of_extent f room extent all = subst (λ (l : List Segment). IsInside room (get_or l 0 (extent_of f))) extent (all 0 (extent_of f) (omega (arith, ap length extent)))
 
 -- the file that a condition names
 pub some_placed : (o : Option Placed) (P : Placed → Type 0) → IsSomeAnd o P → (q : Placed) × (o ≡ Some q) × P q

@@ -1,7 +1,7 @@
 -- What is staged beside the snapshot.
-use Rattle.std.proofs.Common.{◌≡◌, ◌⊎◌, inl, inr, ℕ, zero, suc, ◌+◌, ◌<◌, ◌≤◌, Bool, List, [], ◌∷◌, ◌++◌, length, get_or, Option, None, Some, find, filter, cond, map, take, drop, MatchOption, All, AllPairs, IfSome, IsSomeAnd, refl, sym, ◌∙◌, ap, subst, arith, length-append}
+use Rattle.std.proofs.Common.{◌≡◌, ◌⊎◌, inl, inr, ℕ, zero, suc, ◌+◌, ◌<◌, ◌≤◌, Bool, List, [], ◌∷◌, ◌++◌, length, get_or, Option, None, Some, option_map, find, filter, cond, map, take, drop, MatchOption, All, AllPairs, IfSome, IsSomeAnd, refl, sym, ◌∙◌, ap, subst, arith, length-append}
 use Rattle.std.proofs.lemmas.Bool.{cases_lt, cases_Bool}
-use Rattle.std.proofs.lemmas.List.{append-nil, append_assoc, get_or_append_left, get_or_push, length_push, get_or-map, length-map, drop-drop}
+use Rattle.std.proofs.lemmas.List.{append-nil, append_assoc, get_or_append_left, get_or_push, length_push, get_or-map, length-map, map-append, drop-drop}
 use Rattle.std.proofs.Math.Seq.{take-add}
 use Rattle.std.proofs.lemmas.List.Folds.{find-append}
 use Rattle.std.proofs.lemmas.List.Elements.{All-append, All-push, All-filter}
@@ -11,7 +11,7 @@ use Rattle.std.specs.Option.{option_or}
 use Rattle.md5.specs.Md5.{md5, Holds}
 use Rattle.sg_disk.specs.View.{View, range, put, Torn, Written, Passed, Elapses, Follows}
 use Rattle.sg_disk.specs.Runs.{LeavesOnly, Within}
-use Rattle.sg_disk.specs.Contents.{Segment, Contents, IsClear, AreClear, IsLawful}
+use Rattle.sg_disk.specs.Contents.{Segment, StoredFile, Contents, IsClear, AreClear, IsLawful}
 use Rattle.sg_disk.specs.StandsFor.{IsOpen, IsCurrent, StandsFor, Settled}
 use Rattle.sg_disk.specs.declared.places.TheConstants.{SLOT_ZERO, SLOT_ONE, SLOT_LEN, JOURNAL, DATA}
 use Rattle.sg_disk.proofs.Ranges.{range_kept, range_put, put_is_torn, length-range}
@@ -23,10 +23,11 @@ use Rattle.sg_disk.proofs.Areas.{staged}
 use Rattle.sg_slots.specs.Slots.{slot_of, opposite}
 use Rattle.sg_slots.specs.declared.slots.Slot.{Slot}
 use Rattle.sg_slots.specs.declared.slots.Slot.TheVariants.{Zero, One}
+use Rattle.sg_store.proofs.FileLemmas.{so_far, all_so_far, none_so_far, files_kept}
 use Rattle.sg_store.proofs.OpenLemmas.{extents_of}
-use Rattle.sg_placing.specs.Placing.{segment_of, placed_of, IsPlaced, IsFree, IsLongest, AreApart}
+use Rattle.sg_placing.specs.Placing.{segment_of, segments_of_placed, placed_of, IsPlaced, IsFree, IsLongest, AreApart}
 use Rattle.sg_placing.specs.declared.placed.Placed.{Placed}
-use Rattle.sg_store.specs.Ready.{whole_files, half_files, taken_files, IsWhole, IsBegun, HasStaged, KeepsSnapshot, Knows, IsHalf, IsReady}
+use Rattle.sg_store.specs.Ready.{whole_files, half_files, taken_files, bytes_so_far, file_at, sealed_files, half_file, IsWhole, IsBegun, HasStaged, KeepsSnapshot, Knows, IsHalf, IsReady}
 use Rattle.sg_store.specs.declared.store.Store.{Store}
 use Rattle.sg_store.specs.declared.store.Half.{Half}
 
@@ -49,10 +50,6 @@ refused_gap room need longest taken some none is = elim (cases_lt longest need) 
 pub apart_more : (files : List Placed) (p : Placed) → AreApart files → All (λ q. IsClear p.place p.file.length (segment_of q)) files → AreApart (files ++ p ∷ [])
 apart_more files p apart clear = all_pairs_push (λ q r. IsClear r.place r.file.length (segment_of q)) files p apart clear
 
-range_nothing : (c : List ℕ) (place : ℕ) → range c place 0 ≡ []
-unfolding range
-range_nothing c place = refl
-
 -- a file is begun in a gap
 pub begun_in_gap : (old new : Store) (c : List ℕ) (room : ℕ) (half : Half) → new.current ≡ old.current → new.staged ≡ old.staged → old.half ≡ None → new.half ≡ Some half → half.count ≡ 0 → Holds half.hasher [] → IsFree room (taken_files old) half.placed.file.length half.placed.place → HasStaged old c → HasStaged new c
 begun_in_gap old new c room half current staged idle is count holds free has =
@@ -62,12 +59,9 @@ begun_in_gap old new c room half current staged idle is count holds free has =
     let Clear : List Placed → Type 0 = λ l. All (λ q. IsClear half.placed.place half.placed.file.length (segment_of q)) l in
     record {
       whole = subst (All (IsWhole c)) (sym whole) has.whole;
-      begun = subst (λ (h : Option Half). IfSome h (IsBegun c)) (sym is) (subst (Holds half.hasher) (sym (nothing c half.placed.place half.count count)) holds);
+      begun = subst (λ (h : Option Half). IfSome h (IsBegun c)) (sym is) (subst (Holds half.hasher) (sym (none_so_far c half count)) holds);
       apart = subst AreApart (sym taken) (apart_more (whole_files old) half.placed (subst AreApart before has.apart) (subst Clear before free.clear));
     }
-  where
-    nothing : (c : List ℕ) (place n : ℕ) → n ≡ 0 → range c place n ≡ []
-    nothing c place n is = ap (λ (k : ℕ). range c place k) is ∙ range_nothing c place
 
 -- the lists that a search for a gap goes over, where nothing is half staged
 pub taken_idle : (s : Store) (xs ys : List Placed) → xs ≡ s.current → ys ≡ s.staged → s.half ≡ None → xs ++ ys ≡ taken_files s
@@ -153,10 +147,9 @@ sealed_staged old new c half was current staged idle count digest has =
     let Apart : Placed → Placed → Type 0 = λ p q. IsClear q.place q.file.length (segment_of p) in
     let before : taken_files old ≡ whole_files old ++ p ∷ [] = ap (λ (h : Option Half). whole_files old ++ half_files h) was in
     let taken : taken_files new ≡ whole_files old ++ p ∷ [] = ap (λ (h : Option Half). whole_files new ++ half_files h) idle ∙ append-nil (whole_files new) ∙ whole in
-    let begun : Holds half.hasher (range c p.place half.count) = subst (λ (h : Option Half). IfSome h (IsBegun c)) was has.begun in
-    let bytes : range c p.place p.file.length ++ [] ≡ range c p.place half.count = append-nil (range c p.place p.file.length) ∙ ap (λ (n : ℕ). range c p.place n) (sym count) in
+    let begun : Holds half.hasher (bytes_so_far c half) = subst (λ (h : Option Half). IfSome h (IsBegun c)) was has.begun in
     record {
-      whole = subst (All (IsWhole c)) (sym whole) (All-push (IsWhole c) (whole_files old) p has.whole (ap md5 bytes ∙ digest (range c p.place half.count) begun));
+      whole = subst (All (IsWhole c)) (sym whole) (All-push (IsWhole c) (whole_files old) p has.whole (ap md5 (sym (all_so_far c half count)) ∙ digest (bytes_so_far c half) begun));
       begun = subst (λ (h : Option Half). IfSome h (IsBegun c)) (sym idle) tt;
       apart = subst (AllPairs Apart) (sym taken) (subst (AllPairs Apart) before has.apart);
     }
@@ -231,35 +224,147 @@ bytes_behind c p k bs fits =
     let torn : Torn (p + k) (length bs) c d = put_is_torn c (p + k) bs fits in
     range_parts d p k (length bs) ∙ ap (λ (l : List ℕ). l ++ range d (p + k) (length bs)) (range_kept (p + k) (length bs) p k c d torn (inl (omega arith))) ∙ ap (λ (l : List ℕ). range c p k ++ l) (range_put c (p + k) bs fits)
 
+-- what has come of a file, with the bytes that are written behind it
+more_so_far : (c : List ℕ) (half next : Half) (bs : List ℕ) → next.placed ≡ half.placed → next.count ≡ half.count + length bs → half.count + length bs ≤ half.placed.file.length → half.placed.place + half.count + length bs ≤ length c → bytes_so_far (put c (half.placed.place + half.count) bs) next ≡ bytes_so_far c half ++ bs
+more_so_far c half next bs placed count fits room =
+    let d : List ℕ = put c (half.placed.place + half.count) bs in
+    let near : next.count ≤ next.placed.file.length = omega (arith, count, fits, ap (λ (q : Placed). q.file.length) placed) in
+    so_far d next near ∙ ap (λ (q : Placed). range d q.place next.count) placed ∙ ap (λ (n : ℕ). range d half.placed.place n) count ∙ bytes_behind c half.placed.place half.count bs room ∙ ap (λ (l : List ℕ). l ++ bs) (sym (so_far c half (omega (arith, fits))))
+
+-- as many of its bytes stand there as have come
+half_long : (s : Store) (p : Contents) (c : List ℕ) (half : Half) → IsPlaced s.room half.placed → half.count ≤ half.placed.file.length → StandsFor p c → Knows s p c → half.count ≡ length (bytes_so_far c half)
+half_long s p c half placed fits stands knows =
+    sym (ap length (so_far c half fits) ∙ length-range c half.placed.place half.count (omega (arith, stands.size, knows.room, placed.inside.1, fits)))
+
+-- the half staged file with the bytes that stand there
+half_stands : (v : View) (s : Store) (p : Contents) (half : Half) → s.half ≡ Some half → IsPlaced s.room half.placed → half.count ≤ half.placed.file.length → IsReady v s p → IsHalf s half.placed (bytes_so_far v.bytes half)
+half_stands v s p half is placed fits ready = record {
+  half = half;
+  is = is;
+  placed_is = refl;
+  count = half_long s p v.bytes half placed fits (settled_read v p ready.settled) ready.knows;
+  holds = subst (λ (h : Option Half). IfSome h (IsBegun v.bytes)) is ready.staged.begun;
+}
+
+-- The next bytes of a half staged file are written. The store takes them in
+pub record Writes (v w : View) (s t : Store) (half : Half) (bs : List ℕ) : Type 0 where
+  pub is : s.half ≡ Some half
+  pub placed : IsPlaced s.room half.placed
+  pub fits : half.count + length bs ≤ half.placed.file.length
+  pub size : v.size ≡ DATA + s.room
+  pub call : Passed (Written (half.placed.place + half.count) bs) (Torn (half.placed.place + half.count) (length bs)) v w
+  pub keeps : KeepsSnapshot s t
+  pub sealed : t.staged ≡ s.staged
+  pub takes : (placed : Placed) (before : List ℕ) → IsHalf s placed before → IsHalf t placed (before ++ bs)
+
+-- the store then has the same file half staged, with more bytes
+record More (v w : View) (t : Store) (half : Half) (bs : List ℕ) : Type 0 where
+  after : IsHalf t half.placed (bytes_so_far v.bytes half ++ bs)
+  bytes : bytes_so_far w.bytes after.half ≡ bytes_so_far v.bytes half ++ bs
+  torn : Torn (half.placed.place + half.count) (length bs) v.bytes w.bytes
+
+has_more : (v w : View) (s t : Store) (p : Contents) (half : Half) (bs : List ℕ) → Writes v w s t half bs → IsReady v s p → More v w t half bs
+has_more v w s t p half bs writes ready =
+    let told = ready.settled.told in
+    let c : List ℕ = v.bytes in
+    let fits : half.count ≤ half.placed.file.length = omega (arith, writes.fits) in
+    let long : length c ≡ DATA + s.room = v.sized told ∙ writes.size in
+    let room : half.placed.place + half.count + length bs ≤ length c = omega (arith, long, writes.placed.inside.1, writes.fits) in
+    let before = half_stands v s p half writes.is writes.placed fits ready in
+    let after = writes.takes half.placed (bytes_so_far c half) before in
+    let count : after.half.count ≡ half.count + length bs = after.count ∙ length-append (bytes_so_far c half) bs ∙ ap (λ (n : ℕ). n + length bs) (sym (half_long s p c half writes.placed fits (settled_read v p ready.settled) ready.knows)) in
+    record {
+      after = after;
+      bytes = ap (λ (d : List ℕ). bytes_so_far d after.half) (writes.call.bytes told) ∙ more_so_far c half after.half bs after.placed_is count writes.fits room;
+      torn = subst (λ (d : List ℕ). Torn (half.placed.place + half.count) (length bs) c d) (sym (writes.call.bytes told)) (put_is_torn c (half.placed.place + half.count) bs room);
+    }
+
 -- after the write of the next bytes the store is as ready as before
-pub ready_after : (v w : View) (s t : Store) (p : Contents) (half : Half) (bs : List ℕ) → s.half ≡ Some half → IsPlaced s.room half.placed → half.count + length bs ≤ half.placed.file.length → v.size ≡ DATA + s.room
-    → Passed (Written (half.placed.place + half.count) bs) (Torn (half.placed.place + half.count) (length bs)) v w → Within DATA s.room v w → KeepsSnapshot s t → t.staged ≡ s.staged → ((placed : Placed) (before : List ℕ) → IsHalf s placed before → IsHalf t placed (before ++ bs)) → IsReady v s p → IsReady w t p
-ready_after v w s t p half bs is placed fits size call within keeps sealed takes ready =
+pub ready_after : (v w : View) (s t : Store) (p : Contents) (half : Half) (bs : List ℕ) → Writes v w s t half bs → Within DATA s.room v w → IsReady v s p → IsReady w t p
+ready_after v w s t p half bs writes within ready =
     let told = ready.settled.told in
     let c : List ℕ = v.bytes in
     let place : ℕ = half.placed.place + half.count in
-    let long : length c ≡ DATA + s.room = v.sized told ∙ size in
-    let room : place + length bs ≤ length c = omega (arith, long, placed.inside.1, fits) in
-    let torn : Torn place (length bs) c w.bytes = subst (λ (d : List ℕ). Torn place (length bs) c d) (sym (call.bytes told)) (put_is_torn c place bs room) in
-    let clear = half_clear s c half (length bs) is fits ready.staged in
+    let more = has_more v w s t p half bs writes ready in
+    let clear = half_clear s c half (length bs) writes.is writes.fits ready.staged in
     let lawful : IsLawful p = (settled_read v p ready.settled).lawful in
-    let moments = staged_moments v w p place (length bs) (omega (arith, placed.inside.0)) (omega (arith, placed.inside.1, fits, ready.knows.room)) (contents_clear s p place (length bs) ready.knows.files lawful clear) ready.settled call.time call.images in
-    let begun : Holds half.hasher (range c half.placed.place half.count) = subst (λ (h : Option Half). IfSome h (IsBegun c)) is ready.staged.begun in
-    let before : IsHalf s half.placed (range c half.placed.place half.count) = record { half = half; is = is; placed_is = refl; count = sym (length-range c half.placed.place half.count (omega (arith, room))); holds = begun } in
-    let after = takes half.placed (range c half.placed.place half.count) before in
-    let whole : whole_files t ≡ whole_files s = ap (λ (l : List Placed). l ++ t.staged) keeps.current ∙ ap (λ (l : List Placed). s.current ++ l) sealed in
-    let bytes : range w.bytes half.placed.place (half.count + length bs) ≡ range c half.placed.place half.count ++ bs = ap (λ (d : List ℕ). range d half.placed.place (half.count + length bs)) (call.bytes told) ∙ bytes_behind c half.placed.place half.count bs room in
-    let count : after.half.count ≡ half.count + length bs = after.count ∙ length-append (range c half.placed.place half.count) bs ∙ ap (λ (n : ℕ). n + length bs) (length-range c half.placed.place half.count (omega (arith, room))) in
+    let moments = staged_moments v w p place (length bs) (omega (arith, writes.placed.inside.0)) (omega (arith, writes.placed.inside.1, writes.fits, ready.knows.room)) (contents_clear s p place (length bs) ready.knows.files lawful clear) ready.settled writes.call.time writes.call.images in
+    let whole : whole_files t ≡ whole_files s = ap (λ (l : List Placed). l ++ t.staged) writes.keeps.current ∙ ap (λ (l : List Placed). s.current ++ l) writes.sealed in
     record {
-      settled = settled_leaves v w p told moments call.told;
+      settled = settled_leaves v w p told moments writes.call.told;
       front = one_kept DATA s.room 0 JOURNAL v w told (inl (omega arith)) ready.front within;
-      knows = knows_kept s t p c w.bytes keeps (bytes_kept DATA s.room SLOT_ZERO SLOT_LEN v w told (inl (omega arith)) within) (bytes_kept DATA s.room SLOT_ONE SLOT_LEN v w told (inl (omega arith)) within) ready.knows;
+      knows = knows_kept s t p c w.bytes writes.keeps (bytes_kept DATA s.room SLOT_ZERO SLOT_LEN v w told (inl (omega arith)) within) (bytes_kept DATA s.room SLOT_ONE SLOT_LEN v w told (inl (omega arith)) within) ready.knows;
       staged = record {
-        whole = subst (All (IsWhole w.bytes)) (sym whole) (λ k d lt. whole_kept place (length bs) c w.bytes (get_or (whole_files s) k d) torn (clear k d lt) (ready.staged.whole k d lt));
-        begun = subst (λ (h : Option Half). IfSome h (IsBegun w.bytes)) (sym after.is) (subst (Holds after.half.hasher) (sym (ap (λ (q : Placed). range w.bytes q.place after.half.count) after.placed_is ∙ ap (λ (n : ℕ). range w.bytes half.placed.place n) count ∙ bytes)) after.holds);
-        apart = subst AreApart (sym (ap (λ (l : List Placed). l ++ half_files t.half) whole ∙ ap (λ (h : Option Half). whole_files s ++ half_files h) after.is ∙ ap (λ (q : Placed). whole_files s ++ q ∷ []) after.placed_is ∙ sym (ap (λ (h : Option Half). whole_files s ++ half_files h) is))) ready.staged.apart;
+        whole = subst (All (IsWhole w.bytes)) (sym whole) (λ k d lt. whole_kept place (length bs) c w.bytes (get_or (whole_files s) k d) more.torn (clear k d lt) (ready.staged.whole k d lt));
+        begun = subst (λ (h : Option Half). IfSome h (IsBegun w.bytes)) (sym more.after.is) (subst (Holds more.after.half.hasher) (sym more.bytes) more.after.holds);
+        apart = subst AreApart (sym (ap (λ (l : List Placed). l ++ half_files t.half) whole ∙ ap (λ (h : Option Half). whole_files s ++ half_files h) more.after.is ∙ ap (λ (q : Placed). whole_files s ++ q ∷ []) more.after.placed_is ∙ sym (ap (λ (h : Option Half). whole_files s ++ half_files h) writes.is))) ready.staged.apart;
       };
     }
+
+-- the sealed files have the same bytes
+pub sealed_after : (v w : View) (s t : Store) (p : Contents) (half : Half) (bs : List ℕ) → Writes v w s t half bs → IsReady v s p → sealed_files t w.bytes ≡ sealed_files s v.bytes
+sealed_after v w s t p half bs writes ready =
+    let more = has_more v w s t p half bs writes ready in
+    let place : ℕ = half.placed.place + half.count in
+    let clear = All-back (λ q. IsClear place (length bs) (segment_of q)) s.current s.staged (half_clear s v.bytes half (length bs) writes.is writes.fits ready.staged) in
+    ap (λ (l : List Placed). map (file_at w.bytes) l) writes.sealed ∙ files_kept place (length bs) v.bytes w.bytes s.staged more.torn clear
+
+-- a placed file with bytes
+with_bytes : Placed → List ℕ → StoredFile
+with_bytes q bytes = record { listed = q.file; segments = segments_of_placed q; bytes = bytes }
+
+-- the file of which a part is staged
+half_is : (s : Store) (c : List ℕ) (half : Half) → s.half ≡ Some half → half_file s c ≡ Some (with_bytes half.placed (bytes_so_far c half))
+unfolding with_bytes
+half_is s c half is = ap (λ (o : Option Half). option_map (λ h. with_bytes h.placed (bytes_so_far c h)) o) is
+
+-- one that was begun has no byte yet
+pub half_begun : (s : Store) (c : List ℕ) (p : Placed) → IsHalf s p [] → half_file s c ≡ Some (record (file_at c p) { bytes = [] })
+unfolding with_bytes
+half_begun s c p has =
+    half_is s c has.half has.is ∙ ap (λ (q : Placed). Some (with_bytes q (bytes_so_far c has.half))) has.placed_is ∙ ap (λ (l : List ℕ). Some (with_bytes p l)) (none_so_far c has.half has.count)
+
+-- the file of which a part is staged, with as many bytes as have come
+pub record HalfThere (s : Store) (c : List ℕ) (half : Half) : Type 0 where
+  pub f : StoredFile
+  pub is : half_file s c ≡ Some f
+  pub listed : f.listed ≡ half.placed.file
+  pub long : length f.bytes ≡ half.count
+
+pub half_there : (s : Store) (p : Contents) (c : List ℕ) (half : Half) → s.half ≡ Some half → StandsFor p c → Knows s p c → HalfThere s c half
+unfolding with_bytes
+half_there s p c half is stands knows = record {
+  f = with_bytes half.placed (bytes_so_far c half);
+  is = half_is s c half is;
+  listed = refl;
+  long = sym (half_long s p c half (s.half_placed half is) (s.half_count half is) stands knows);
+}
+
+half_one : (s : Store) (c : List ℕ) (half : Half) (f : StoredFile) → s.half ≡ Some half → half_file s c ≡ Some f → f ≡ with_bytes half.placed (bytes_so_far c half)
+half_one s c half f is was = let same : Some f ≡ Some (with_bytes half.placed (bytes_so_far c half)) = sym was ∙ half_is s c half is in cc
+
+-- and the half staged one has more
+pub half_after : (v w : View) (s t : Store) (p : Contents) (half : Half) (bs : List ℕ) (f : StoredFile) → Writes v w s t half bs → IsReady v s p → half_file s v.bytes ≡ Some f → half_file t w.bytes ≡ Some (record f { bytes = f.bytes ++ bs })
+unfolding with_bytes
+half_after v w s t p half bs f writes ready was =
+    let more = has_more v w s t p half bs writes ready in
+    let one : f ≡ with_bytes half.placed (bytes_so_far v.bytes half) = half_one s v.bytes half f writes.is was in
+    half_is t w.bytes more.after.half more.after.is ∙ ap (λ (q : Placed). Some (with_bytes q (bytes_so_far w.bytes more.after.half))) more.after.placed_is ∙ ap (λ (l : List ℕ). Some (with_bytes half.placed l)) more.bytes ∙ ap (λ (g : StoredFile). Some (record g { bytes = g.bytes ++ bs })) (sym one)
+
+-- a file whose bytes have all come goes behind the sealed ones
+pub sealed_more : (s : Store) (staged : List Placed) (c : List ℕ) (half : Half) (f : StoredFile) → s.half ≡ Some half → half.count ≡ half.placed.file.length → staged ≡ s.staged ++ half.placed ∷ [] → half_file s c ≡ Some f → map (file_at c) staged ≡ sealed_files s c ++ f ∷ []
+unfolding with_bytes
+sealed_more s staged c half f is count all was =
+    let one : f ≡ with_bytes half.placed (bytes_so_far c half) = half_one s c half f is was in
+    let last : file_at c half.placed ≡ f = ap (λ (l : List ℕ). with_bytes half.placed l) (sym (all_so_far c half count)) ∙ sym one in
+    ap (λ (l : List Placed). map (file_at c) l) all ∙ map-append (file_at c) s.staged (half.placed ∷ []) ∙ ap (λ (g : StoredFile). sealed_files s c ++ g ∷ []) last
+
+pub sealed_digest : (s : Store) (c : List ℕ) (half : Half) (f : StoredFile) → s.half ≡ Some half → ((bytes : List ℕ) → Holds half.hasher bytes → md5 bytes ≡ half.placed.file.md5) → HasStaged s c → half_file s c ≡ Some f → md5 f.bytes ≡ f.listed.md5
+unfolding with_bytes
+sealed_digest s c half f is digest has was =
+    let one : f ≡ with_bytes half.placed (bytes_so_far c half) = half_one s c half f is was in
+    let begun : Holds half.hasher (bytes_so_far c half) = subst (λ (h : Option Half). IfSome h (IsBegun c)) is has.begun in
+    ap (λ (g : StoredFile). md5 g.bytes) one ∙ digest (bytes_so_far c half) begun ∙ ap (λ (g : StoredFile). g.listed.md5) (sym one)
 
 -- a half staged file
 pub some_half : (h : Option Half) (P : Half → Type 0) → IsSomeAnd h P → (half : Half) × (h ≡ Some half) × P half

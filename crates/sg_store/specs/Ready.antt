@@ -1,14 +1,14 @@
 -- A store and the disk that it was opened on.
-use Rattle.std.specs.Prelude.{◌≡◌, ◌↔◌, ℕ, List, [], ◌∷◌, ◌++◌, length, map, find, Option, None, Some, MatchOption, IfSome, All, AllPairs, unwrap_or, option_map, is_some, Bool, true}
+use Rattle.std.specs.Prelude.{◌≡◌, ◌↔◌, ℕ, List, [], ◌∷◌, ◌++◌, length, take, map, find, Option, None, Some, MatchOption, IfSome, All, unwrap_or, option_map, is_some, Bool, true}
 use Rattle.std.specs.List.{flat_map}
 use Rattle.md5.specs.Md5.{md5, Holds}
 use Rattle.sg_base.specs.declared.file.Listed.{Listed}
 use Rattle.sg_disk.specs.View.{View, range}
 use Rattle.sg_disk.specs.Runs.{HasOne}
-use Rattle.sg_disk.specs.Contents.{Segment, StoredFile, Contents, IsClear}
+use Rattle.sg_disk.specs.Contents.{Segment, StoredFile, Contents}
 use Rattle.sg_disk.specs.StandsFor.{IsOpen, IsCurrent, Settled}
 use Rattle.sg_disk.specs.declared.places.TheConstants.{JOURNAL}
-use Rattle.sg_placing.specs.Placing.{segment_of, segments_of_placed, placed_of, AreApart, same_file}
+use Rattle.sg_placing.specs.Placing.{segments_of_placed, placed_of, AreApart, same_file}
 use Rattle.sg_placing.specs.declared.placed.Placed.{Placed}
 use Rattle.sg_slots.specs.Slots.{slot_of, opposite}
 use Rattle.sg_store.specs.declared.store.Store.{Store}
@@ -35,9 +35,13 @@ bytes_in c segments = flat_map (λ s. range c s.place s.size) segments
 abbrev pub IsWhole : List ℕ → Placed → Type 0
 IsWhole c p = md5 (bytes_in c (segments_of_placed p)) ≡ p.file.md5
 
--- the bytes that have come of a half staged file stand at the front of its place
+-- the bytes that have come of a half staged file: the first of those that stand in its segments
+abbrev pub bytes_so_far : List ℕ → Half → List ℕ
+bytes_so_far c half = take half.count (bytes_in c (segments_of_placed half.placed))
+
+-- they are the bytes of its digest
 abbrev pub IsBegun : List ℕ → Half → Type 0
-IsBegun c half = Holds half.hasher (range c half.placed.place half.count)
+IsBegun c half = Holds half.hasher (bytes_so_far c half)
 
 abbrev pub text_length : Option (List ℕ) → ℕ
 text_length None = 0
@@ -64,6 +68,18 @@ pub record HasStaged (s : Store) (c : List ℕ) : Type 0 where
   pub whole : All (IsWhole c) (whole_files s)
   pub begun : IfSome s.half (IsBegun c)
   pub apart : AreApart (taken_files s)
+
+-- a placed file with the bytes that stand there
+abbrev pub file_at : List ℕ → Placed → StoredFile
+file_at c p = let segments = segments_of_placed p in record { listed = p.file; segments = segments; bytes = bytes_in c segments }
+
+-- the files that are staged and sealed, in the order in which they were sealed
+abbrev pub sealed_files : Store → List ℕ → List StoredFile
+sealed_files s c = map (file_at c) s.staged
+
+-- the half staged file, with the bytes that have come so far
+abbrev pub half_file : Store → List ℕ → Option StoredFile
+half_file s c = option_map (λ h. record (file_at c h.placed) { bytes = bytes_so_far c h }) s.half
 
 -- The disk is settled with these contents, and the store knows them and what is staged beside them.
 -- Every image has the header and the slots that a read gives

@@ -1,15 +1,15 @@
 // The staging of files beside the snapshot. No room is taken from memory here.
-ghost use Rattle.std.specs.Prelude.{◌≡◌, ◌≢◌, ◌⊎◌, ℕ, ◌+◌, ◌<◌, ◌≤◌, List, [], ◌∷◌, ◌++◌, length, None, Some, OnOk, OnErr, IsErrOf, IsSomeAnd, IfSome, is_some, option_map, filter, true, false};
+ghost use Rattle.std.specs.Prelude.{◌≡◌, ◌≢◌, ◌⊎◌, ◌↔◌, ℕ, ◌+◌, ◌<◌, ◌≤◌, List, [], ◌∷◌, ◌++◌, length, None, Some, OnOk, OnErr, IsErrOf, IsSomeAnd, IfSome, IsTrue, is_some, option_map, filter, true, false};
 ghost use Rattle.std.specs.List.{list_any};
 ghost use Rattle.md5.specs.Md5.{md5, Holds};
 ghost use Rattle.sg_disk.specs.Runs.{LeavesOnly, Ran, Broke, Within};
-ghost use Rattle.sg_disk.specs.Contents.{Contents};
+ghost use Rattle.sg_disk.specs.Contents.{StoredFile, Contents};
 ghost use Rattle.sg_disk.specs.StandsFor.{StandsFor, HasOneJournal};
 ghost use Rattle.sg_placing.specs.Placing.{IsLowest, IsLongest, same_file};
 ghost use Rattle.sg_placing.specs.declared.placed.Placed.{Placed};
 ghost use Rattle.sg_store.specs.declared.faults.NoSpace.{NoSpace};
 ghost use Rattle.sg_store.specs.declared.faults.DigestDiffers.{DigestDiffers};
-ghost use Rattle.sg_store.specs.Ready.{taken_files, is_held, HasStaged, KeepsSnapshot, IsHalf, IsReady};
+ghost use Rattle.sg_store.specs.Ready.{taken_files, is_held, sealed_files, half_file, HasStaged, KeepsSnapshot, IsHalf, IsReady};
 
 use crate::choice::find_whole;
 use crate::faults::{DigestDiffers, NoSpace};
@@ -25,6 +25,13 @@ impl Store {
         ensures { result ≡ is_held self.now file.now }
     {
         find_whole(self.current.as_slice(), self.staged.as_slice(), file).is_some()
+    }
+
+    /// Whether as many files are staged and sealed as a snapshot may have, 512. Then no file may be begun.
+    pub fn is_full(&self) -> bool
+        ensures { IsTrue result ↔ (MAX_FILES ≤ length self.now.staged) }
+    {
+        self.staged.as_slice().len() >= MAX_FILES as usize
     }
 
     /// Begins to stage a file, at the front of the lowest gap that is long enough. A gap is what neither the snapshot's files
@@ -78,6 +85,8 @@ impl Store {
         ensures any_moment { (p : Contents) → IsReady (D.view disk.old) self.old p → LeavesOnly (StandsFor p) (D.view disk.old) (D.view disk.new) }
         ensures ready { OnOk result ((p : Contents) → IsReady (D.view disk.old) self.old p → IsReady (D.view disk.new) self.new p) }
         ensures bytes { OnOk result ((placed : Placed) (before : List ℕ) → IsHalf self.old placed before → IsHalf self.new placed (before ++ bytes.now)) }
+        ensures half_bytes { OnOk result ((p : Contents) (f : StoredFile) → IsReady (D.view disk.old) self.old p → half_file self.old (D.view disk.old).bytes ≡ Some f → half_file self.new (D.view disk.new).bytes ≡ Some (record f { bytes = f.bytes ++ bytes.now })) }
+        ensures sealed_bytes { OnOk result ((p : Contents) → IsReady (D.view disk.old) self.old p → sealed_files self.new (D.view disk.new).bytes ≡ sealed_files self.old (D.view disk.old).bytes) }
         ensures snapshot { KeepsSnapshot self.old self.new }
         ensures sealed { self.new.staged ≡ self.old.staged }
         ensures within { Within DATA self.old.room (D.view disk.old) (D.view disk.new) }
@@ -121,6 +130,8 @@ impl Store {
     pub fn stage_seal(&mut self) -> Result<(), DigestDiffers>
         requires { IsSomeAnd self.old.half (λ h. h.count ≡ h.placed.file.length) }
         ensures sealed { OnOk result ((placed : Placed) (bytes : List ℕ) → IsHalf self.old placed bytes → (md5 bytes ≡ placed.file.md5) × (self.new.staged ≡ self.old.staged ++ placed ∷ [])) }
+        ensures sealed_bytes { OnOk result ((c : List ℕ) (f : StoredFile) → half_file self.old c ≡ Some f → sealed_files self.new c ≡ sealed_files self.old c ++ f ∷ []) }
+        ensures digest { OnOk result ((c : List ℕ) (f : StoredFile) → HasStaged self.old c → half_file self.old c ≡ Some f → md5 f.bytes ≡ f.listed.md5) }
         ensures differs { (fault : DigestDiffers) → IsErrOf result fault → (placed : Placed) (bytes : List ℕ) → IsHalf self.old placed bytes → (md5 bytes ≡ fault.found) × (fault.found ≢ placed.file.md5) }
         ensures given_up { OnErr result (self.new.staged ≡ self.old.staged) }
         ensures idle { self.new.half ≡ None }

@@ -3,7 +3,7 @@ use Rattle.sg_disk.specs.View.{Torn, Written, Passed}
 use Rattle.sg_disk.proofs.Writes.{one_kept, within_write, within_write_failed}
 use Rattle.sg_disk.specs.declared.places.TheConstants.{DATA, JOURNAL, JOURNAL_LEN}
 use Rattle.sg_store.specs.declared.store.Half.{Half}
-use Rattle.sg_store.proofs.StageLemmas.{some_half, staged_within, staged_leaves, ready_after}
+use Rattle.sg_store.proofs.StageLemmas.{Writes, some_half, staged_within, staged_leaves, ready_after, sealed_after, half_after}
 use Rattle.sg_store.proofs.store.Store.stage_bytes.Goals as goal
 
 pub returns-in_err-write_at-clause-within : goal.returns-in_err-write_at-clause-within
@@ -66,9 +66,38 @@ returns-clause-ready g c p ready =
     let at : c.next_place-place.result ≡ half.placed.place + half.count = subst (λ (h : Option Half). IfSome h (λ x. c.next_place-place.result ≡ x.placed.place + x.count)) found.1 c.next_place-place.ensures in
     let placed = s.half_placed half found.1 in
     let inside : c.next_place-place.result + length bs ≤ v.size = omega (arith, at, c.requires.disk, placed.inside.1, found.2) in
-    let call : Passed (Written (half.placed.place + half.count) bs) (Torn (half.placed.place + half.count) (length bs)) v w = subst (λ (k : ℕ). Passed (Written k bs) (Torn k (length bs)) v w) at c.in_ok-write_at.ensures.passed in
     let within = staged_within v w s half c.next_place-place.result (length bs) at placed found.2 (within_write c.next_place-place.result bs v w inside c.in_ok-write_at.ensures.passed) in
-    ready_after v w s c.take_in.new.self p half bs found.1 placed found.2 c.requires.disk call within c.take_in.ensures.snapshot c.take_in.ensures.sealed c.take_in.ensures.bytes ready
+    let call : Passed (Written (half.placed.place + half.count) bs) (Torn (half.placed.place + half.count) (length bs)) v w = subst (λ (k : ℕ). Passed (Written k bs) (Torn k (length bs)) v w) at c.in_ok-write_at.ensures.passed in
+    let writes : Writes v w s c.take_in.new.self half bs = record { is = found.1; placed = placed; fits = found.2; size = c.requires.disk; call = call; keeps = c.take_in.ensures.snapshot; sealed = c.take_in.ensures.sealed; takes = c.take_in.ensures.bytes } in
+    ready_after v w s c.take_in.new.self p half bs writes within ready
+
+pub returns-clause-half_bytes : goal.returns-clause-half_bytes
+returns-clause-half_bytes g c p f ready was =
+    let v = g.D.Disk.view c.args.disk.now in
+    let w = g.D.Disk.view c.write_at.new.self in
+    let s = c.args.self.now in
+    let bs = c.args.bytes.now in
+    let found = some_half s.half (λ h. h.count + length bs ≤ h.placed.file.length) c.requires.fits in
+    let half = found.0 in
+    let at : c.next_place-place.result ≡ half.placed.place + half.count = subst (λ (h : Option Half). IfSome h (λ x. c.next_place-place.result ≡ x.placed.place + x.count)) found.1 c.next_place-place.ensures in
+    let placed = s.half_placed half found.1 in
+    let call : Passed (Written (half.placed.place + half.count) bs) (Torn (half.placed.place + half.count) (length bs)) v w = subst (λ (k : ℕ). Passed (Written k bs) (Torn k (length bs)) v w) at c.in_ok-write_at.ensures.passed in
+    let writes : Writes v w s c.take_in.new.self half bs = record { is = found.1; placed = placed; fits = found.2; size = c.requires.disk; call = call; keeps = c.take_in.ensures.snapshot; sealed = c.take_in.ensures.sealed; takes = c.take_in.ensures.bytes } in
+    half_after v w s c.take_in.new.self p half bs f writes ready was
+
+pub returns-clause-sealed_bytes : goal.returns-clause-sealed_bytes
+returns-clause-sealed_bytes g c p ready =
+    let v = g.D.Disk.view c.args.disk.now in
+    let w = g.D.Disk.view c.write_at.new.self in
+    let s = c.args.self.now in
+    let bs = c.args.bytes.now in
+    let found = some_half s.half (λ h. h.count + length bs ≤ h.placed.file.length) c.requires.fits in
+    let half = found.0 in
+    let at : c.next_place-place.result ≡ half.placed.place + half.count = subst (λ (h : Option Half). IfSome h (λ x. c.next_place-place.result ≡ x.placed.place + x.count)) found.1 c.next_place-place.ensures in
+    let placed = s.half_placed half found.1 in
+    let call : Passed (Written (half.placed.place + half.count) bs) (Torn (half.placed.place + half.count) (length bs)) v w = subst (λ (k : ℕ). Passed (Written k bs) (Torn k (length bs)) v w) at c.in_ok-write_at.ensures.passed in
+    let writes : Writes v w s c.take_in.new.self half bs = record { is = found.1; placed = placed; fits = found.2; size = c.requires.disk; call = call; keeps = c.take_in.ensures.snapshot; sealed = c.take_in.ensures.sealed; takes = c.take_in.ensures.bytes } in
+    sealed_after v w s c.take_in.new.self p half bs writes ready
 
 pub returns-in_err-write_at-clause-journal : goal.returns-in_err-write_at-clause-journal
 returns-in_err-write_at-clause-journal g c told one =
