@@ -3,3 +3,4 @@ pub mod HeaderLemmas
 pub mod OverlapLemmas
 pub mod TableLemmas
 pub mod StandLemmas
+pub mod Soundness

@@ -1,5 +1,5 @@
 -- What the slots of a disk say that stands for contents.
-use Rattle.std.proofs.Common.{◌≡◌, ◌⊎◌, inl, inr, ℕ, ◌+◌, ◌*◌, ◌^◌, ◌<◌, ◌≤◌, ◌↔◌, Bool, true, List, [], ◌∷◌, length, get_or, map, Option, None, Some, is_some, if◌then◌else◌, All, AllPairs, sym, ◌∙◌, ap, subst, arith}
+use Rattle.std.proofs.Common.{◌≡◌, ◌⊎◌, inl, inr, ℕ, ◌+◌, ◌*◌, ◌^◌, ◌<◌, ◌≤◌, ◌↔◌, Bool, true, List, [], ◌∷◌, length, get_or, map, Option, None, Some, is_some, if◌then◌else◌, All, AllPairs, refl, sym, ◌∙◌, ap, subst, arith}
 use Rattle.std.specs.List.{flat_map}
 use Rattle.std.proofs.lemmas.Bool.{cases_eq, lt-ltb, le-ltb, true≢false}
 use Rattle.std.proofs.lemmas.List.{length-map, get_or-map}
@@ -61,8 +61,15 @@ files_fit room number text files small snapshot k d lt =
       place = omega (arith, here.1, small);
     }
 
+-- the head and the files of an open slot with a sound snapshot
+pub slot_stands : (slot : Slot) (c : List ℕ) (room number : ℕ) (text : List ℕ) (files : List StoredFile) → room ≤ MAX_ROOM → IsSnapshot room number text files → IsOpen (slot_of slot c) → HasFields number text files (slot_of slot c) → (head_at slot c ≡ Some (record { number = number; text = length text; count = length files })) × (files_at slot c ≡ map placed_of files)
+slot_stands slot c room number text files small snapshot opened has =
+    let fit : All FitsEntry files = files_fit room number text files small snapshot in
+    let head = head_stands slot c number text files snapshot.numbered.1 (omega (arith, snapshot.long.1)) (omega (arith, snapshot.listed.few)) opened has in
+    (head, ap (λ (h : Option Head). files_of slot h c) head ∙ files_stand slot c number text files (record { number = number; text = length text; count = length files }) snapshot.listed.few fit refl has)
+
 -- the head of the other slot has a lower number
-other_lower : (slot : Slot) (c : List ℕ) (room number : ℕ) → number < 2 ^ 32 → IsOther room number (slot_of slot c) → (head_at slot c ≡ None) ⊎ ((head : Head) × (head_at slot c ≡ Some head) × (head.number < number))
+pub other_lower : (slot : Slot) (c : List ℕ) (room number : ℕ) → number < 2 ^ 32 → IsOther room number (slot_of slot c) → (head_at slot c ≡ None) ⊎ ((head : Head) × (head_at slot c ≡ Some head) × (head.number < number))
 other_lower slot c room number fits other = elim (cases_eq (get_or c (slot_place slot) 0) 1) [
   | inr closed ↦ inl (head_closed slot c closed)
   | inl opened ↦
