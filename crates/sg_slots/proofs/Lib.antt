@@ -4,3 +4,4 @@ pub mod OverlapLemmas
 pub mod TableLemmas
 pub mod StandLemmas
 pub mod Soundness
+pub mod RefusalLemmas

@@ -1,9 +1,10 @@
 // The header: its bytes, and its reading.
-ghost use Rattle.std.specs.Prelude.{◌≡◌, ◌≢◌, ◌⊎◌, ℕ, ◌+◌, ◌<◌, ◌≤◌, None, Some, length, IfOk, OnOk, OnErr, IsErrOf, slice_index};
+ghost use Rattle.std.specs.Prelude.{◌≡◌, ◌≢◌, ◌⊎◌, ℕ, ◌+◌, ◌<◌, ◌≤◌, None, Some, length, IfOk, IfErr, OnOk, OnErr, IsErrOf, slice_index};
 ghost use Rattle.sg_disk.specs.View.{Only};
-ghost use Rattle.sg_disk.specs.Runs.{LeavesOnly, Ran, Broke};
+ghost use Rattle.sg_disk.specs.Runs.{LeavesOnly, Ran};
 ghost use Rattle.sg_slots.specs.Bytes.{header_fields, u32_at, u64_at};
 ghost use Rattle.sg_slots.specs.Damage.{mark_damage, format_damage, header_damage, is_room};
+ghost use Rattle.sg_slots.specs.Refusals.{EndedBy};
 
 use crate::entries::{u32_in, u64_in};
 use crate::fault::OpenFault;
@@ -30,7 +31,7 @@ pub fn header_fields_of(format: &Format) -> [u8; 28]
 pub fn read_header<D: Disk>(disk: &mut D) -> Result<Format, OpenFault>
     ensures unformatted { IsErrOf result OpenFault.Unformatted → ((D.view disk.new).size < DATA) ⊎ ((D.view disk.old).told → slice_index (D.view disk.old).bytes 0 ≢ 1) }
     ensures damaged { (place found : ℕ) → IsErrOf result (OpenFault.Damaged place found) → (D.view disk.old).told → header_damage (D.view disk.new).size (D.view disk.old).bytes ≡ Some (record { place = place; found = found }) }
-    ensures broke { IsErrOf result OpenFault.Disk → Broke (D.view disk.old) (D.view disk.new) }
+    ensures ended { IfErr result (λ fault. EndedBy fault (D.view disk.old) (D.view disk.new)) }
     ensures memory { IsErrOf result OpenFault.Memory → ⊥ }
     ensures formatted { OnOk result ((D.view disk.old).told → slice_index (D.view disk.old).bytes 0 ≡ 1) }
     ensures sound { OnOk result ((D.view disk.old).told → header_damage (D.view disk.new).size (D.view disk.old).bytes ≡ None) }
@@ -39,6 +40,7 @@ pub fn read_header<D: Disk>(disk: &mut D) -> Result<Format, OpenFault>
     ensures room { IfOk result (λ h. (D.view disk.old).told → h.room ≡ u64_at (D.view disk.old).bytes 24) }
     ensures few { IfOk result (λ h. h.room ≤ MAX_ROOM) }
     ensures size { IfOk result (λ h. (D.view disk.new).size ≡ DATA + h.room) }
+    ensures told_size { (D.view disk.old).told → (D.view disk.new).size ≡ (D.view disk.old).size }
     ensures stable { OnOk result ((D.view disk.old).told → Only (D.view disk.old).bytes (D.view disk.new)) }
     ensures bytes { OnOk result ((D.view disk.old).told → (D.view disk.new).bytes ≡ (D.view disk.old).bytes) }
     ensures ran { OnOk result (Ran 2 (D.view disk.old) (D.view disk.new)) }

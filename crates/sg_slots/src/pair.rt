@@ -1,10 +1,11 @@
 // Both slots together.
-ghost use Rattle.std.specs.Prelude.{◌≡◌, ℕ, ◌+◌, ◌≤◌, None, Some, IfOk, OnOk, OnErr, IsErrOf, All, vec_capacity};
+ghost use Rattle.std.specs.Prelude.{◌≡◌, ℕ, ◌+◌, ◌≤◌, None, Some, IfOk, IfErr, OnOk, OnErr, IsErrOf, All, vec_capacity};
 ghost use Rattle.std.specs.Option.{ForSome};
-ghost use Rattle.sg_disk.specs.Runs.{LeavesOnly, Broke, Quiet};
+ghost use Rattle.sg_disk.specs.Runs.{LeavesOnly, Quiet};
 ghost use Rattle.sg_placing.specs.Placing.{IsPlaced};
 ghost use Rattle.sg_slots.specs.Slots.{head_at, files_at, spare_at};
 ghost use Rattle.sg_slots.specs.Damage.{twin_damage, slots_damage};
+ghost use Rattle.sg_slots.specs.Refusals.{EndedBy};
 
 use crate::fault::OpenFault;
 use crate::overlaps::check_apart;
@@ -61,7 +62,7 @@ pub fn read_slots<D: Disk>(
     requires room { room ≤ MAX_ROOM }
     requires table { 16384 ≤ vec_capacity table.old }
     ensures damaged { (place found : ℕ) → IsErrOf result (OpenFault.Damaged place found) → (D.view disk.old).told → slots_damage room (D.view disk.old).bytes ≡ Some (record { place = place; found = found }) }
-    ensures broke { IsErrOf result OpenFault.Disk → Broke (D.view disk.old) (D.view disk.new) }
+    ensures ended { IfErr result (λ fault. EndedBy fault (D.view disk.old) (D.view disk.new)) }
     ensures formatted { IsErrOf result OpenFault.Unformatted → ⊥ }
     ensures memory { IsErrOf result OpenFault.Memory → ⊥ }
     ensures sound { OnOk result ((D.view disk.old).told → slots_damage room (D.view disk.old).bytes ≡ None) }

@@ -1,5 +1,5 @@
 // The reading of a slot.
-ghost use Rattle.std.specs.Prelude.{◌≡◌, ℕ, ◌+◌, ◌*◌, ◌<◌, ◌≤◌, [], length, IfOk, OnOk, OnErr, IsErrOf, None, Some, All, vec_capacity, vec_len, Option, true};
+ghost use Rattle.std.specs.Prelude.{◌≡◌, ℕ, ◌+◌, ◌*◌, ◌<◌, ◌≤◌, [], length, IfOk, IfErr, OnOk, OnErr, IsErrOf, None, Some, All, vec_capacity, vec_len, Option, true};
 ghost use Rattle.std.specs.Option.{ForSome};
 ghost use Rattle.sg_disk.specs.View.{range};
 ghost use Rattle.sg_disk.specs.Runs.{LeavesOnly, Broke, Quiet};
@@ -7,6 +7,7 @@ ghost use Rattle.sg_placing.specs.Placing.{IsPlaced};
 ghost use Rattle.sg_slots.specs.Bytes.{entries_of};
 ghost use Rattle.sg_slots.specs.Slots.{slot_place, head_at, files_of, files_at};
 ghost use Rattle.sg_slots.specs.Damage.{is_entry, fields_damage, entries_damage, slot_damage};
+ghost use Rattle.sg_slots.specs.Refusals.{EndedBy};
 
 use crate::entries::{placed_in, u32_in};
 use crate::fault::OpenFault;
@@ -163,7 +164,7 @@ pub fn read_slot<D: Disk>(
     requires room { room ≤ MAX_ROOM }
     requires table { 16384 ≤ vec_capacity table.old }
     ensures damaged { (place found : ℕ) → IsErrOf result (OpenFault.Damaged place found) → (D.view disk.old).told → slot_damage room slot (D.view disk.old).bytes ≡ Some (record { place = place; found = found }) }
-    ensures broke { IsErrOf result OpenFault.Disk → Broke (D.view disk.old) (D.view disk.new) }
+    ensures ended { IfErr result (λ fault. EndedBy fault (D.view disk.old) (D.view disk.new)) }
     ensures formatted { IsErrOf result OpenFault.Unformatted → ⊥ }
     ensures memory { IsErrOf result OpenFault.Memory → ⊥ }
     ensures sound { OnOk result ((D.view disk.old).told → slot_damage room slot (D.view disk.old).bytes ≡ None) }

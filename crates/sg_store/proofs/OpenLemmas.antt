@@ -1,13 +1,13 @@
 -- What an opening finds on a disk that stands for contents.
-use Rattle.std.proofs.Common.{◌≡◌, ℕ, ◌+◌, ◌-◌, ◌^◌, ◌<◌, ◌≤◌, List, [], ◌∷◌, ◌++◌, length, get_or, map, Option, None, Some, MatchOption, is_some, All, AllPairs, IfSome, refl, sym, ◌∙◌, ap, subst, arith, zero-add}
+use Rattle.std.proofs.Common.{◌≡◌, ◌⊎◌, inl, inr, ℕ, ◌+◌, ◌-◌, ◌<◌, ◌≤◌, List, [], ◌∷◌, ◌++◌, length, get_or, map, Option, None, Some, MatchOption, is_some, All, AllPairs, IfSome, refl, sym, ◌∙◌, ap, subst, arith}
 use Rattle.std.proofs.lemmas.List.{append-nil, length-map, get_or-map}
 use Rattle.md5.specs.Md5.{md5}
 use Rattle.sg_disk.specs.View.{View, range, Only}
 use Rattle.sg_disk.proofs.Standing.{settled_by, lawful_inside}
 use Rattle.sg_disk.proofs.Writes.{one_stable}
 use Rattle.sg_disk.specs.Contents.{Segment, StoredFile, Contents, IsClear, IsInside, IsExtent, IsSnapshot, IsLawful, segments_of}
-use Rattle.sg_disk.specs.StandsFor.{le32, le64, place_of, IsCurrent, AreSlots, IsHeld, AreFiles, bytes_at, StandsFor}
-use Rattle.sg_disk.specs.declared.places.TheConstants.{HEADER_LEN, JOURNAL, SLOT_ZERO, SLOT_ONE, SLOT_LEN, DATA, MAX_ROOM}
+use Rattle.sg_disk.specs.StandsFor.{place_of, IsCurrent, AreSlots, IsHeld, AreFiles, bytes_at, StandsFor}
+use Rattle.sg_disk.specs.declared.places.TheConstants.{JOURNAL, SLOT_ZERO, SLOT_ONE, SLOT_LEN, DATA, MAX_ROOM}
 use Rattle.sg_disk.proofs.Ranges.{range-range}
 use Rattle.sg_disk.proofs.Extents.{extent_of, segments-extent}
 use Rattle.sg_placing.specs.Placing.{placed_of, AreApart}
@@ -21,8 +21,10 @@ use Rattle.sg_slots.specs.declared.slots.Slot.{Slot}
 use Rattle.sg_slots.specs.declared.slots.Slot.TheVariants.{Zero, One}
 use Rattle.sg_slots.specs.declared.slots.Head.{Head}
 use Rattle.sg_slots.proofs.SlotLemmas.{head_closed}
-use Rattle.sg_slots.proofs.TableLemmas.{FitsEntry, number_at, long_at}
-use Rattle.sg_slots.proofs.StandLemmas.{gate_of, head_stands, files_stand, files_fit, spare_found, gate_found, apart_placed}
+use Rattle.sg_slots.specs.Damage.{Damage, header_damage, slots_damage}
+use Rattle.sg_slots.proofs.HeaderLemmas.{header_number, header_long_number, header_open}
+use Rattle.sg_slots.proofs.Soundness.{header_undamaged, slots_undamaged}
+use Rattle.sg_slots.proofs.StandLemmas.{gate_of, slot_stands, spare_found, gate_found, apart_placed}
 
 -- the bytes of a file that the disk holds are whole
 pub whole_held : (room : ℕ) (c : List ℕ) (f : StoredFile) → IsExtent f → All (IsInside room) f.segments → IsHeld (range c DATA room) f → IsWhole c (placed_of f)
@@ -56,12 +58,6 @@ pub record Snapshot (spare : Slot) (p : Contents) (c : List ℕ) : Type 0 where
   pub files : files_at (opposite spare) c ≡ map placed_of p.files
   pub slot : MatchOption p.text (Unit {0}) (λ text. IsCurrent p.room p.number text p.files (slot_of (opposite spare) c) (slot_of spare c))
 
-found_some : (spare : Slot) (c : List ℕ) (room number : ℕ) (text : List ℕ) (files : List StoredFile) → room ≤ MAX_ROOM → IsSnapshot room number text files → IsCurrent room number text files (slot_of (opposite spare) c) (slot_of spare c) → (head_at (opposite spare) c ≡ Some (record { number = number; text = length text; count = length files })) × (files_at (opposite spare) c ≡ map placed_of files)
-found_some spare c room number text files small snapshot is =
-    let fit : All FitsEntry files = files_fit room number text files small snapshot in
-    let head = head_stands (opposite spare) c number text files snapshot.numbered.1 (omega (arith, snapshot.long.1)) (omega (arith, snapshot.listed.few)) is.gate is.fields in
-    (head, ap (λ (h : Option Head). files_of (opposite spare) h c) head ∙ files_stand (opposite spare) c number text files (record { number = number; text = length text; count = length files }) snapshot.listed.few fit refl is.fields)
-
 found_in : (c : List ℕ) (p : Contents) (text : Option (List ℕ)) → p.text ≡ text → p.room ≤ MAX_ROOM → MatchOption text ((p.number ≡ 0) × (p.files ≡ [])) (λ t. IsSnapshot p.room p.number t p.files) → AreSlots p.room p.number text p.files (range c SLOT_ZERO SLOT_LEN) (range c SLOT_ONE SLOT_LEN) → AreFiles p.files (range c DATA p.room) → Snapshot (spare_at (head_at Zero c) (head_at One c)) p c
 found_in c p None is small none slots held =
     let zero_shut : head_at Zero c ≡ None = head_closed Zero c (λ opened. slots.0 (gate_of Zero c ∙ opened)) in
@@ -77,20 +73,13 @@ found_in c p None is small none slots held =
 found_in c p (Some t) is small snapshot slots held =
     let spare : Slot = spare_at (head_at Zero c) (head_at One c) in
     let current = spare_found c p.room p.number t p.files snapshot.numbered.1 (omega (arith, snapshot.long.1)) (omega (arith, snapshot.listed.few)) slots in
-    let both = found_some spare c p.room p.number t p.files small snapshot current in
+    let both = slot_stands (opposite spare) c p.room p.number t p.files small snapshot current.gate current.fields in
     record {
       number = ap head_number both.0;
       text = ap head_text both.0 ∙ sym (ap text_length is);
       files = both.1;
       slot = subst (λ (o : Option (List ℕ)). MatchOption o (Unit {0}) (λ text. IsCurrent p.room p.number text p.files (slot_of (opposite spare) c) (slot_of spare c))) (sym is) current;
     }
-
--- a number of the header
-header_number : (c : List ℕ) (p n : ℕ) → p + 4 ≤ HEADER_LEN → n < 2 ^ 32 → range (range c 0 HEADER_LEN) p 4 ≡ le32 n → u32_at c p ≡ n
-header_number c p n le lt is = number_at c p n lt (sym (ap (λ (k : ℕ). range c k 4) (zero-add p)) ∙ sym (range-range c 0 HEADER_LEN p 4 le) ∙ is)
-
-header_long_number : (c : List ℕ) (p n : ℕ) → p + 8 ≤ HEADER_LEN → n < 2 ^ 64 → range (range c 0 HEADER_LEN) p 8 ≡ le64 n → u64_at c p ≡ n
-header_long_number c p n le lt is = long_at c p n lt (sym (ap (λ (k : ℕ). range c k 8) (zero-add p)) ∙ sym (range-range c 0 HEADER_LEN p 8 le) ∙ is)
 
 -- the files of lawful contents
 extents_in : (room number : ℕ) (text : Option (List ℕ)) (files : List StoredFile) → MatchOption text ((number ≡ 0) × (files ≡ [])) (λ t. IsSnapshot room number t files) → All IsExtent files
@@ -145,3 +134,20 @@ opened v w s r told only bytes found stands =
       });
       staged = subst (HasStaged s) (sym bytes) (staged_none s r c files found.staged found.half stands.lawful stands.files);
     }
+
+-- refusals that a disk which stands for contents doesn't meet
+pub not_unformatted : (v : View) (p : Contents) (size : ℕ) → v.told → StandsFor p v.bytes → size ≡ v.size → (size < DATA) ⊎ (v.told → get_or v.bytes 0 0 ≡ 1 → ⊥) → ⊥
+not_unformatted v p size told stands same (inl short) = absurd (omega (arith, short, same, v.sized told, stands.size))
+not_unformatted v p size told stands same (inr closed) = closed told (header_open v.bytes stands.header.gate)
+
+pub header_not_damaged : (v : View) (p : Contents) (size : ℕ) (damage : Damage) → v.told → StandsFor p v.bytes → size ≡ v.size → header_damage size v.bytes ≡ Some damage → ⊥
+header_not_damaged v p size damage told stands same is =
+    let none : header_damage size v.bytes ≡ None = ap (λ (n : ℕ). header_damage n v.bytes) (same ∙ sym (v.sized told)) ∙ header_undamaged p v.bytes stands in
+    let wrong : None ≡ Some damage = sym none ∙ is in
+    cc
+
+pub slots_not_damaged : (p : Contents) (c d : List ℕ) (room : ℕ) (damage : Damage) → StandsFor p c → d ≡ c → room ≡ u64_at c 24 → slots_damage room d ≡ Some damage → ⊥
+slots_not_damaged p c d room damage stands same at is =
+    let none : slots_damage room d ≡ None = ap (λ (n : ℕ). slots_damage n d) at ∙ ap (λ (b : List ℕ). slots_damage (u64_at c 24) b) same ∙ slots_undamaged p c stands in
+    let wrong : None ≡ Some damage = sym none ∙ is in
+    cc

@@ -5,7 +5,8 @@
 //! view v is settled with the contents p, and that the store knows them and what is staged. Opening gives it for what a read
 //! gives, and each call takes it from contents to contents. A call that writes says by `Within` where it writes, so that
 //! what another crate knows of the rest of the disk stays. Each call over a disk also says what a crash at any moment of it
-//! leaves (`any_moment`), when it fails (`broke`), and how many calls at least it makes where it passes (`ran`).
+//! leaves (`any_moment`), when it fails (`broke`; of an opening `ended`), and how many calls at least it makes where it
+//! passes (`ran`).
 //!
 //! What the header and the two slots say, and what an opening refuses, is the part of `sg_slots`; where a file goes is the
 //! part of `sg_placing`. All memory is taken by `Store::open`.

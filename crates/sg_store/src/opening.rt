@@ -1,14 +1,15 @@
 // The opening of a store.
-ghost use Rattle.std.specs.Prelude.{◌≡◌, ◌≢◌, ◌⊎◌, ℕ, ◌+◌, ◌<◌, ◌≤◌, [], length, None, Some, IfOk, OnOk, OnErr, IsErrOf, is_some, All, vec_capacity, slice_index};
+ghost use Rattle.std.specs.Prelude.{◌≡◌, ◌≢◌, ◌⊎◌, ℕ, ◌+◌, ◌<◌, ◌≤◌, [], length, None, Some, IfOk, IfErr, OnOk, OnErr, IsErrOf, is_some, All, vec_capacity, slice_index};
 ghost use Rattle.std.specs.Option.{ForSome};
 ghost use Rattle.sg_disk.specs.View.{Only};
-ghost use Rattle.sg_disk.specs.Runs.{LeavesOnly, Ran, Broke, Quiet};
+ghost use Rattle.sg_disk.specs.Runs.{LeavesOnly, Ran, Quiet};
 ghost use Rattle.sg_disk.specs.Contents.{Contents};
 ghost use Rattle.sg_disk.specs.StandsFor.{StandsFor, StandsForOne, Two, Between};
 ghost use Rattle.sg_placing.specs.Placing.{IsPlaced};
 ghost use Rattle.sg_slots.specs.Bytes.{u32_at, u64_at};
 ghost use Rattle.sg_slots.specs.Slots.{slot_place, head_at, files_at, spare_at, in_slot, head_number, head_text};
 ghost use Rattle.sg_slots.specs.Damage.{slot_damage, twin_damage, overlap_damage, slots_damage, damage_of};
+ghost use Rattle.sg_slots.specs.Refusals.{EndedBy};
 ghost use Rattle.sg_store.specs.Ready.{IsReady};
 
 use crate::store::Store;
@@ -105,6 +106,7 @@ impl Store {
         ensures stable { OnOk result ((D.view disk.old).told → Only (D.view disk.new).bytes (D.view disk.new)) }
         ensures bytes { OnOk result ((D.view disk.old).told → (D.view disk.new).bytes ≡ (D.view disk.old).bytes) }
         ensures size { IfOk result (λ s. (D.view disk.new).size ≡ DATA + s.room) }
+        ensures told_size { (D.view disk.old).told → (D.view disk.new).size ≡ (D.view disk.old).size }
         ensures ran { OnOk result (Ran OPEN_CALLS (D.view disk.old) (D.view disk.new)) }
         ensures any_moment { LeavesOnly (D.view disk.old).images (D.view disk.old) (D.view disk.new) }
         ensures between { (p q : Contents) → Between (D.view disk.old) (Two p q) → LeavesOnly (StandsForOne (Two p q)) (D.view disk.old) (D.view disk.new) }
@@ -114,7 +116,11 @@ impl Store {
         ensures formatted { OnOk result ((D.view disk.old).told → slice_index (D.view disk.old).bytes 0 ≡ 1) }
         ensures damaged { (place found : ℕ) → IsErrOf result (OpenFault.Damaged place found) → (D.view disk.old).told → damage_of (D.view disk.new).size (D.view disk.old).bytes ≡ Some (record { place = place; found = found }) }
         ensures sound { OnOk result ((D.view disk.old).told → damage_of (D.view disk.new).size (D.view disk.old).bytes ≡ None) }
-        ensures broke { IsErrOf result OpenFault.Disk → Broke (D.view disk.old) (D.view disk.new) }
+        ensures ended { IfErr result (λ fault. EndedBy fault (D.view disk.old) (D.view disk.new)) }
+
+        // A disk that stands for contents is opened, unless the disk fails or memory runs out.
+        ensures recognized { (p : Contents) → (D.view disk.old).told → StandsFor p (D.view disk.old).bytes → IsErrOf result OpenFault.Unformatted → ⊥ }
+        ensures undamaged { (p : Contents) → (D.view disk.old).told → StandsFor p (D.view disk.old).bytes → (place found : ℕ) → IsErrOf result (OpenFault.Damaged place found) → ⊥ }
     {
         let mut rooms = Rooms::reserve(alloc)?;
         let header = read_header(disk)?;

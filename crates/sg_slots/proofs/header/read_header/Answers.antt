@@ -1,10 +1,12 @@
 use Rattle.std.proofs.Common.{◌≡◌, ℕ, List, None, inr, sym, ◌∙◌, ap, arith}
-use Rattle.std.proofs.lemmas.Result.{IfOk-weaker, on_ok_weaker}
+use Rattle.std.proofs.lemmas.Result.{IfOk-weaker, on_ok_weaker, err_from_is_err_and}
 use Rattle.sg_slots.specs.Bytes.{u32_at, u64_at}
 use Rattle.sg_slots.specs.declared.formats.Format.{Format}
-use Rattle.sg_disk.specs.View.{range}
+use Rattle.sg_disk.specs.View.{range, Same}
+use Rattle.sg_disk.proofs.Moments.{ran_one, ran_joined, ran_broke, ran_fewer, broke_one}
 use Rattle.sg_slots.specs.Damage.{header_damage}
 use Rattle.sg_slots.proofs.HeaderLemmas.{header_u32, header_u64, header_gate, header_same}
+use Rattle.sg_slots.proofs.RefusalLemmas.{ended_checked, size_told}
 use Rattle.sg_slots.proofs.header.read_header.Goals as goal
 
 pub returns-then-bytes-ne1-clause-unformatted : goal.returns-then-bytes-ne1-clause-unformatted
@@ -64,3 +66,58 @@ returns-clause-room g c = IfOk-weaker c.check_header.result (λ (h : Format). h.
     let bytes = c.in_ok-size.ensures.passed.bytes here ∙ c.in_ok-sync.ensures.passed.bytes told in
     let head : c.read.new.into ≡ range (g.D.Disk.view c.args.disk.now).bytes 0 32 = c.in_ok-read.ensures.ok there ∙ ap (λ (b : List ℕ). range b 0 32) bytes in
     is ∙ header_u64 (g.D.Disk.view c.args.disk.now).bytes c.read.new.into 24 head (omega arith)) c.check_header.ensures.room
+
+pub returns-in_err-sync-clause-ended : goal.returns-in_err-sync-clause-ended
+returns-in_err-sync-clause-ended g c = let p = err_from_is_err_and c.from_residual.result c.from_residual.ensures.1 in rw (p.1, p.2) (broke_one Same (g.D.Disk.view c.args.disk.now) (g.D.Disk.view c.sync.new.self) c.in_err-sync.ensures.failed)
+
+pub returns-in_err-size-clause-ended : goal.returns-in_err-size-clause-ended
+returns-in_err-size-clause-ended g c =
+    let v = g.D.Disk.view c.args.disk.now in
+    let a = g.D.Disk.view c.sync.new.self in
+    let b = g.D.Disk.view c.len.new.self in
+    let p = err_from_is_err_and c.from_residual-in_err-size.result c.from_residual-in_err-size.ensures.1 in
+    rw (p.1, p.2) (ran_broke 1 v a b (ran_one Same Same v a c.in_ok-sync.ensures.passed) (broke_one Same a b c.in_err-size.ensures.failed))
+
+pub returns-then-size-lt-DATA-clause-ended : goal.returns-then-size-lt-DATA-clause-ended
+returns-then-size-lt-DATA-clause-ended g c =
+    let v = g.D.Disk.view c.args.disk.now in
+    let a = g.D.Disk.view c.sync.new.self in
+    let b = g.D.Disk.view c.len.new.self in
+    ran_fewer 2 0 v b (omega arith) (ran_joined 1 1 v a b (ran_one Same Same v a c.in_ok-sync.ensures.passed) (ran_one Same Same a b c.in_ok-size.ensures.passed))
+
+pub returns-in_err-read-clause-ended : goal.returns-in_err-read-clause-ended
+returns-in_err-read-clause-ended g c =
+    let v = g.D.Disk.view c.args.disk.now in
+    let a = g.D.Disk.view c.sync.new.self in
+    let b = g.D.Disk.view c.len.new.self in
+    let w = g.D.Disk.view c.read.new.self in
+    let p = err_from_is_err_and c.from_residual-in_err-read.result c.from_residual-in_err-read.ensures.1 in
+    rw (p.1, p.2) (ran_broke 2 v b w (ran_joined 1 1 v a b (ran_one Same Same v a c.in_ok-sync.ensures.passed) (ran_one Same Same a b c.in_ok-size.ensures.passed)) (broke_one Same b w c.in_err-read.ensures.failed))
+
+pub returns-then-bytes-ne1-clause-ended : goal.returns-then-bytes-ne1-clause-ended
+returns-then-bytes-ne1-clause-ended g c =
+    let v = g.D.Disk.view c.args.disk.now in
+    let a = g.D.Disk.view c.sync.new.self in
+    let b = g.D.Disk.view c.len.new.self in
+    let w = g.D.Disk.view c.read.new.self in
+    ran_fewer 3 0 v w (omega arith) (ran_joined 2 1 v b w (ran_joined 1 1 v a b (ran_one Same Same v a c.in_ok-sync.ensures.passed) (ran_one Same Same a b c.in_ok-size.ensures.passed)) (ran_one Same Same b w c.in_ok-read.ensures.passed))
+
+pub returns-clause-ended : goal.returns-clause-ended
+returns-clause-ended g c =
+    let v = g.D.Disk.view c.args.disk.now in
+    let a = g.D.Disk.view c.sync.new.self in
+    let b = g.D.Disk.view c.len.new.self in
+    let w = g.D.Disk.view c.read.new.self in
+    ended_checked Format c.check_header.result v w c.check_header.ensures.only (ran_fewer 3 0 v w (omega arith) (ran_joined 2 1 v b w (ran_joined 1 1 v a b (ran_one Same Same v a c.in_ok-sync.ensures.passed) (ran_one Same Same a b c.in_ok-size.ensures.passed)) (ran_one Same Same b w c.in_ok-read.ensures.passed)))
+
+pub returns-then-size-lt-DATA-clause-told_size : goal.returns-then-size-lt-DATA-clause-told_size
+returns-then-size-lt-DATA-clause-told_size g c told = size_told (g.D.Disk.view c.sync.new.self) (g.D.Disk.view c.len.new.self) c.in_ok-size.ensures.passed (c.in_ok-sync.ensures.passed.told told) ∙ c.sync.ensures.size
+
+pub returns-in_err-read-clause-told_size : goal.returns-in_err-read-clause-told_size
+returns-in_err-read-clause-told_size g c told = c.read.ensures.size ∙ size_told (g.D.Disk.view c.sync.new.self) (g.D.Disk.view c.len.new.self) c.in_ok-size.ensures.passed (c.in_ok-sync.ensures.passed.told told) ∙ c.sync.ensures.size
+
+pub returns-then-bytes-ne1-clause-told_size : goal.returns-then-bytes-ne1-clause-told_size
+returns-then-bytes-ne1-clause-told_size g c told = c.read.ensures.size ∙ size_told (g.D.Disk.view c.sync.new.self) (g.D.Disk.view c.len.new.self) c.in_ok-size.ensures.passed (c.in_ok-sync.ensures.passed.told told) ∙ c.sync.ensures.size
+
+pub returns-clause-told_size : goal.returns-clause-told_size
+returns-clause-told_size g c told = c.read.ensures.size ∙ size_told (g.D.Disk.view c.sync.new.self) (g.D.Disk.view c.len.new.self) c.in_ok-size.ensures.passed (c.in_ok-sync.ensures.passed.told told) ∙ c.sync.ensures.size

@@ -1,13 +1,19 @@
 use Rattle.std.proofs.Common.{◌≡◌, ℕ, List, Option, is_some, ◌∙◌, sym, ap}
-use Rattle.sg_disk.proofs.Moments.{quiet_only, weaker, unchanged_joined}
+use Rattle.std.proofs.lemmas.Result.{err_from_is_err_and}
+use Rattle.sg_disk.proofs.Moments.{quiet_only, weaker, unchanged_joined, ran_none}
 use Rattle.sg_disk.proofs.Standing.{between_read}
 use Rattle.sg_disk.specs.StandsFor.{StandsForOne, Two}
 use Rattle.sg_slots.specs.Slots.{head_at, files_at, spare_at, opposite, head_number, head_text}
 use Rattle.sg_slots.specs.declared.slots.Head.{Head}
 use Rattle.sg_slots.specs.declared.slots.Slot.{Slot}
 use Rattle.sg_slots.specs.declared.slots.Slot.TheVariants.{Zero, One}
+use Rattle.sg_slots.specs.declared.fault.OpenFault.TheVariants.{Unformatted, Damaged}
+use Rattle.sg_slots.specs.declared.formats.Format.{Format}
+use Rattle.sg_slots.specs.declared.pair.SlotPair.{SlotPair}
+use Rattle.sg_store.specs.declared.store.Store.{Store}
+use Rattle.sg_slots.proofs.RefusalLemmas.{ended_after, handed_on}
 use Rattle.sg_slots.proofs.StandLemmas.{in_opposite, in_spare, files_opposite}
-use Rattle.sg_store.proofs.OpenLemmas.{Found, opened}
+use Rattle.sg_store.proofs.OpenLemmas.{Found, opened, not_unformatted, header_not_damaged, slots_not_damaged}
 use Rattle.sg_store.proofs.store.Store.open.Goals as goal
 
 pub returns-clause-ready : goal.returns-clause-ready
@@ -51,3 +57,30 @@ returns-clause-between g c p q between =
     let m = g.D.Disk.view c.read_header.new.disk in
     let w = g.D.Disk.view c.read_slots.new.disk in
     weaker v w v.images (StandsForOne (Two p q)) between.each (unchanged_joined v m w c.in_ok-header.ensures.any_moment c.in_ok-slots.ensures.any_moment)
+
+pub returns-in_err-rooms-clause-ended : goal.returns-in_err-rooms-clause-ended
+returns-in_err-rooms-clause-ended g c = let p = err_from_is_err_and c.from_residual.result c.from_residual.ensures.1 in rw (p.1, p.2) (ran_none (g.D.Disk.view c.args.disk.now))
+
+pub returns-in_err-slots-clause-ended : goal.returns-in_err-slots-clause-ended
+returns-in_err-slots-clause-ended g c =
+    let p = err_from_is_err_and c.from_residual-in_err-slots.result c.from_residual-in_err-slots.ensures.1 in
+    rw (p.1, p.2) (ended_after 2 (g.D.Disk.view c.args.disk.now) (g.D.Disk.view c.read_header.new.disk) (g.D.Disk.view c.read_slots.new.disk) c.in_err-slots.field-0.0 c.in_ok-header.ensures.ran c.in_err-slots.ensures.ended)
+
+pub returns-in_err-header-clause-recognized : goal.returns-in_err-header-clause-recognized
+returns-in_err-header-clause-recognized g c p told stands is =
+    let q = err_from_is_err_and c.from_residual-in_err-header.result c.from_residual-in_err-header.ensures.1 in
+    let same = handed_on Format Store c.from_residual-in_err-header.result q.0 c.in_err-header.field-0.0 Unformatted q.1 q.2 is in
+    not_unformatted (g.D.Disk.view c.args.disk.now) p (g.D.Disk.view c.read_header.new.disk).size told stands (c.read_header.ensures.told_size told) (c.in_err-header.ensures.unformatted same)
+
+pub returns-in_err-header-clause-undamaged : goal.returns-in_err-header-clause-undamaged
+returns-in_err-header-clause-undamaged g c p told stands place found is =
+    let q = err_from_is_err_and c.from_residual-in_err-header.result c.from_residual-in_err-header.ensures.1 in
+    let same = handed_on Format Store c.from_residual-in_err-header.result q.0 c.in_err-header.field-0.0 (Damaged place found) q.1 q.2 is in
+    header_not_damaged (g.D.Disk.view c.args.disk.now) p (g.D.Disk.view c.read_header.new.disk).size (record { place = place; found = found }) told stands (c.read_header.ensures.told_size told) (c.in_err-header.ensures.damaged place found same told)
+
+pub returns-in_err-slots-clause-undamaged : goal.returns-in_err-slots-clause-undamaged
+returns-in_err-slots-clause-undamaged g c p told stands place found is =
+    let q = err_from_is_err_and c.from_residual-in_err-slots.result c.from_residual-in_err-slots.ensures.1 in
+    let same = handed_on SlotPair Store c.from_residual-in_err-slots.result q.0 c.in_err-slots.field-0.0 (Damaged place found) q.1 q.2 is in
+    let h = c.in_ok-header.ensures in
+    slots_not_damaged p (g.D.Disk.view c.args.disk.now).bytes (g.D.Disk.view c.read_header.new.disk).bytes c.in_ok-header.header.room (record { place = place; found = found }) stands (h.bytes told) (h.room told) (c.in_err-slots.ensures.damaged place found same (h.ran.told told))
