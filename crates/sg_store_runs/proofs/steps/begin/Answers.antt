@@ -1,0 +1,7 @@
+use Rattle.sg_store_runs.proofs.StepLemmas.{begins}
+use Rattle.sg_store_runs.proofs.steps.begin.Goals as goal
+
+pub returns-clause-stepped : goal.returns-clause-stepped
+returns-clause-stepped c bytes old shows =
+    let began = c.in_ok-stage_begin.ensures.began in
+    begins c.args.store.now c.stage_begin.new.self bytes old c.args.file.now began.0 (c.may_begin.ensures.idle c.if-not-may_begin.false) began.1 began.2 c.stage_begin.ensures.sealed c.stage_begin.ensures.snapshot (c.stage_begin.ensures.staged bytes) shows

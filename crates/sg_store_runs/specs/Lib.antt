@@ -1,0 +1,3 @@
+pub mod Stage
+pub mod Steps
+pub mod Stops

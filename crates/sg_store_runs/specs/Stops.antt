@@ -1,0 +1,19 @@
+-- How a refusal of the store ends a run.
+use Rattle.sg_slots.specs.declared.fault.OpenFault.{OpenFault}
+use Rattle.sg_slots.specs.declared.fault.OpenFault.TheVariants as open_fault
+use Rattle.sg_store.specs.declared.faults.SwitchFault.{SwitchFault}
+use Rattle.sg_store.specs.declared.faults.SwitchFault.TheVariants as switch_fault
+use Rattle.sg_store_runs.specs.declared.stop.Stop.{Stop}
+use Rattle.sg_store_runs.specs.declared.stop.Stop.TheVariants.{Spent, Disk, Unformatted, Damaged, Memory}
+
+-- where an opening is refused
+abbrev pub stop_of_open : OpenFault → Stop
+stop_of_open open_fault.Unformatted = Unformatted
+stop_of_open (open_fault.Damaged place found) = Damaged place found
+stop_of_open open_fault.Disk = Disk
+stop_of_open open_fault.Memory = Memory
+
+-- where a switch is
+abbrev pub stop_of_switch : SwitchFault → Stop
+stop_of_switch switch_fault.Spent = Spent
+stop_of_switch switch_fault.Disk = Disk

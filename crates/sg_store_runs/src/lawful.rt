@@ -1,0 +1,87 @@
+// What the calls of a store ask, as tests.
+ghost use Rattle.std.specs.Prelude.{◌≡◌, ◌+◌, ◌<◌, ◌≤◌, length, All, AllPairs, IsSomeAnd, None, true, false};
+ghost use Rattle.sg_store.specs.Ready.{is_held};
+
+use sg_base::Listed;
+use sg_disk::{MAX_FILE_LEN, MAX_FILES, MAX_TEXT};
+use sg_store::Store;
+
+/// Whether a file may be begun.
+pub fn may_begin(store: &Store, file: &Listed) -> bool
+    ensures media { result ≡ true → 1 ≤ file.now.media.0 }
+    ensures some { result ≡ true → 1 ≤ file.now.length }
+    ensures long { result ≡ true → file.now.length ≤ MAX_FILE_LEN }
+    ensures new { result ≡ true → is_held store.now file.now ≡ false }
+    ensures idle { result ≡ true → store.now.half ≡ None }
+    ensures few { result ≡ true → length store.now.staged < MAX_FILES }
+{
+    if file.media.0 == 0 || file.length == 0 || u64::from(file.length) > MAX_FILE_LEN {
+        return false;
+    }
+    if store.held(file) || store.is_full() {
+        return false;
+    }
+    match store.staged() {
+        Some(_) => false,
+        None => true,
+    }
+}
+
+/// Whether so many bytes more belong to the half staged file.
+pub fn may_bring(store: &Store, count: usize) -> bool
+    ensures { result ≡ true → IsSomeAnd store.now.half (λ h. h.count + count ≤ h.placed.file.length) }
+{
+    match store.staged() {
+        Some((file, came)) => came <= file.length && count <= (file.length - came) as usize,
+        None => false,
+    }
+}
+
+/// Whether all bytes of the half staged file have come.
+pub fn may_seal(store: &Store) -> bool
+    ensures { result ≡ true → IsSomeAnd store.now.half (λ h. h.count ≡ h.placed.file.length) }
+{
+    match store.staged() {
+        Some((file, came)) => came == file.length,
+        None => false,
+    }
+}
+
+/// Whether a manifest and its files may become current.
+pub fn may_switch(store: &Store, manifest: &[u8], files: &[Listed]) -> bool
+    ensures few { result ≡ true → length files.now ≤ MAX_FILES }
+    ensures ascending { result ≡ true → AllPairs (λ f g. f.media.0 < g.media.0) files.now }
+    ensures held { result ≡ true → All (λ f. is_held store.now f ≡ true) files.now }
+    ensures some { result ≡ true → 1 ≤ length manifest.now }
+    ensures long { result ≡ true → length manifest.now ≤ MAX_TEXT }
+{
+    files.len() <= MAX_FILES as usize
+        && !manifest.is_empty()
+        && manifest.len() <= MAX_TEXT as usize
+        && is_ascending(files)
+        && are_held(store, files)
+}
+
+// Whether the ids of these files ascend.
+fn is_ascending(files: &[Listed]) -> bool
+    ensures { result ≡ true → AllPairs (λ f g. f.media.0 < g.media.0) files.now }
+{
+    for i in 1..files.len() {
+        if files[i - 1].media.0 >= files[i].media.0 {
+            return false;
+        }
+    }
+    true
+}
+
+// Whether each of these files is held.
+fn are_held(store: &Store, files: &[Listed]) -> bool
+    ensures { result ≡ true → All (λ f. is_held store.now f ≡ true) files.now }
+{
+    for file in files {
+        if !store.held(file) {
+            return false;
+        }
+    }
+    true
+}

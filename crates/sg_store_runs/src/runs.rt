@@ -1,0 +1,37 @@
+// A list of calls, one behind another.
+ghost use Rattle.std.specs.Prelude.{◌≡◌, ℕ, ◌+◌, OnOk, IsErrOf};
+ghost use Rattle.sg_disk.specs.Runs.{LeavesOnly, Ran, Broke};
+ghost use Rattle.sg_disk.specs.StandsFor.{HasOneJournal};
+ghost use Rattle.sg_store_runs.specs.Stage.{Stage, IsAt};
+ghost use Rattle.sg_store_runs.specs.Steps.{Runs, StandsForSome};
+
+use crate::call::Call;
+use crate::steps::step;
+use crate::stop::Stop;
+use sg_disk::{DATA, Disk};
+use sg_store::Store;
+use std::alloc::Global;
+
+/// Makes calls in their order, up to the first that isn't lawful or that the store refuses, over the disk on which the store
+/// was opened.
+pub fn run<D: Disk>(
+    alloc: Global,
+    store: &mut Store,
+    disk: &mut D,
+    calls: &[Call],
+) -> Result<(), Stop>
+    requires disk { (D.view disk.old).size ≡ DATA + store.old.room }
+
+    // Whatever the answer, a crash at any moment leaves the contents after some first calls.
+    ensures any_moment { (start : Stage) → IsAt (D.view disk.old) store.old start → LeavesOnly (StandsForSome start calls.now) (D.view disk.old) (D.view disk.new) }
+    ensures ran { OnOk result ((start : Stage) → IsAt (D.view disk.old) store.old start → (end : Stage) × Runs start calls.now end × IsAt (D.view disk.new) store.new end) }
+    ensures size { OnOk result ((D.view disk.new).size ≡ DATA + store.new.room) }
+    ensures journal { OnOk result ((D.view disk.old).told → HasOneJournal (D.view disk.old) → HasOneJournal (D.view disk.new)) }
+    ensures passed { OnOk result (Ran 0 (D.view disk.old) (D.view disk.new)) }
+    ensures broke { IsErrOf result Stop.Disk → Broke (D.view disk.old) (D.view disk.new) }
+{
+    for call in calls {
+        step(alloc, store, disk, call)?;
+    }
+    Ok(())
+}
