@@ -4,7 +4,7 @@ use Rattle.sg_slots.specs.declared.fault.OpenFault.TheVariants as open_fault
 use Rattle.sg_store.specs.declared.faults.SwitchFault.{SwitchFault}
 use Rattle.sg_store.specs.declared.faults.SwitchFault.TheVariants as switch_fault
 use Rattle.sg_store_runs.specs.declared.stop.Stop.{Stop}
-use Rattle.sg_store_runs.specs.declared.stop.Stop.TheVariants.{Spent, Disk, Unformatted, Damaged, Memory}
+use Rattle.sg_store_runs.specs.declared.stop.Stop.TheVariants.{Unlawful, NoSpace, DigestDiffers, Spent, Disk, Unformatted, Damaged, Memory}
 
 -- where an opening is refused
 abbrev pub stop_of_open : OpenFault → Stop
@@ -17,3 +17,14 @@ stop_of_open open_fault.Memory = Memory
 abbrev pub stop_of_switch : SwitchFault → Stop
 stop_of_switch switch_fault.Spent = Spent
 stop_of_switch switch_fault.Disk = Disk
+
+-- a stop that says of the disk that it holds no store, or a damaged one
+abbrev pub BlamesDisk : Stop → Type 0
+BlamesDisk Unlawful = ⊥
+BlamesDisk (NoSpace fault) = ⊥
+BlamesDisk (DigestDiffers fault) = ⊥
+BlamesDisk Spent = ⊥
+BlamesDisk Disk = ⊥
+BlamesDisk Unformatted = Unit {0}
+BlamesDisk (Damaged place found) = Unit {0}
+BlamesDisk Memory = ⊥

@@ -1,10 +1,11 @@
 // The calls of a list, each where it is lawful.
-ghost use Rattle.std.specs.Prelude.{◌≡◌, ℕ, ◌+◌, List, [], ◌∷◌, OnOk, IsErrOf};
+ghost use Rattle.std.specs.Prelude.{◌≡◌, ℕ, ◌+◌, List, [], ◌∷◌, OnOk, IfErr, IsErrOf};
 ghost use Rattle.sg_disk.specs.Runs.{LeavesOnly, Ran, Broke};
 ghost use Rattle.sg_disk.specs.StandsFor.{HasOneJournal};
 ghost use Rattle.sg_store_runs.specs.declared.call.Call.{Call};
 ghost use Rattle.sg_store_runs.specs.Stage.{Stage, Shows, IsAt};
 ghost use Rattle.sg_store_runs.specs.Steps.{Step, StandsForSome};
+ghost use Rattle.sg_store_runs.specs.Stops.{BlamesDisk};
 
 use crate::call::Call;
 use crate::lawful::{may_begin, may_bring, may_seal, may_switch};
@@ -19,6 +20,7 @@ fn begin(store: &mut Store, file: &Listed) -> Result<(), Stop>
     ensures stepped { OnOk result ((c : List ℕ) (old : Stage) → Shows store.old c old → (new : Stage) × Step old (Call.Begin file.now) new × Shows store.new c new) }
     ensures room { store.new.room ≡ store.old.room }
     ensures passed { IsErrOf result Stop.Disk → ⊥ }
+    ensures undamaged { IfErr result (λ stop. BlamesDisk stop → ⊥) }
 {
     if !may_begin(store, file) {
         return Err(Stop::Unlawful);
@@ -32,6 +34,7 @@ fn seal(store: &mut Store) -> Result<(), Stop>
     ensures stepped { OnOk result ((c : List ℕ) (old : Stage) → Shows store.old c old → (new : Stage) × Step old Call.Seal new × Shows store.new c new) }
     ensures room { store.new.room ≡ store.old.room }
     ensures passed { IsErrOf result Stop.Disk → ⊥ }
+    ensures undamaged { IfErr result (λ stop. BlamesDisk stop → ⊥) }
 {
     if !may_seal(store) {
         return Err(Stop::Unlawful);
@@ -57,6 +60,7 @@ fn bring<D: Disk>(store: &mut Store, disk: &mut D, bytes: &[u8]) -> Result<(), S
     ensures journal { OnOk result ((D.view disk.old).told → HasOneJournal (D.view disk.old) → HasOneJournal (D.view disk.new)) }
     ensures passed { OnOk result (Ran 0 (D.view disk.old) (D.view disk.new)) }
     ensures broke { IsErrOf result Stop.Disk → Broke (D.view disk.old) (D.view disk.new) }
+    ensures undamaged { IfErr result (λ stop. BlamesDisk stop → ⊥) }
 {
     if !may_bring(store, bytes.len()) {
         return Err(Stop::Unlawful);
@@ -79,6 +83,7 @@ fn switch<D: Disk>(
     ensures journal { OnOk result ((D.view disk.old).told → HasOneJournal (D.view disk.old) → HasOneJournal (D.view disk.new)) }
     ensures passed { OnOk result (Ran 0 (D.view disk.old) (D.view disk.new)) }
     ensures broke { IsErrOf result Stop.Disk → Broke (D.view disk.old) (D.view disk.new) }
+    ensures undamaged { IfErr result (λ stop. BlamesDisk stop → ⊥) }
 {
     if !may_switch(store, manifest, files) {
         return Err(Stop::Unlawful);
@@ -95,6 +100,7 @@ fn open_again<D: Disk>(alloc: Global, store: &mut Store, disk: &mut D) -> Result
     ensures journal { OnOk result ((D.view disk.old).told → HasOneJournal (D.view disk.old) → HasOneJournal (D.view disk.new)) }
     ensures passed { OnOk result (Ran 0 (D.view disk.old) (D.view disk.new)) }
     ensures broke { IsErrOf result Stop.Disk → Broke (D.view disk.old) (D.view disk.new) }
+    ensures undamaged { (old : Stage) → IsAt (D.view disk.old) store.old old → IfErr result (λ stop. BlamesDisk stop → ⊥) }
 {
     *store = Store::open(alloc, disk)?;
     Ok(())
@@ -114,6 +120,7 @@ pub fn step<D: Disk>(
     ensures journal { OnOk result ((D.view disk.old).told → HasOneJournal (D.view disk.old) → HasOneJournal (D.view disk.new)) }
     ensures passed { OnOk result (Ran 0 (D.view disk.old) (D.view disk.new)) }
     ensures broke { IsErrOf result Stop.Disk → Broke (D.view disk.old) (D.view disk.new) }
+    ensures undamaged { (old : Stage) → IsAt (D.view disk.old) store.old old → IfErr result (λ stop. BlamesDisk stop → ⊥) }
 {
     match call {
         Call::Begin(file) => begin(store, file),
