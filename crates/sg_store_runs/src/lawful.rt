@@ -1,6 +1,7 @@
 // What the calls of a store ask, as tests.
 ghost use Rattle.std.specs.Prelude.{◌≡◌, ◌+◌, ◌<◌, ◌≤◌, length, All, AllPairs, IsSomeAnd, None, true, false};
 ghost use Rattle.sg_store.specs.Ready.{is_held};
+ghost use Rattle.sg_store_runs.specs.Lawful.{MayBegin, AreHeld};
 
 use sg_base::Listed;
 use sg_disk::{MAX_FILE_LEN, MAX_FILES, MAX_TEXT};
@@ -14,6 +15,7 @@ pub fn may_begin(store: &Store, file: &Listed) -> bool
     ensures new { result ≡ true → is_held store.now file.now ≡ false }
     ensures idle { result ≡ true → store.now.half ≡ None }
     ensures few { result ≡ true → length store.now.staged < MAX_FILES }
+    ensures only { result ≡ false → MayBegin store.now file.now → ⊥ }
 {
     if file.media.0 == 0 || file.length == 0 || u64::from(file.length) > MAX_FILE_LEN {
         return false;
@@ -29,7 +31,8 @@ pub fn may_begin(store: &Store, file: &Listed) -> bool
 
 /// Whether so many bytes more belong to the half staged file.
 pub fn may_bring(store: &Store, count: usize) -> bool
-    ensures { result ≡ true → IsSomeAnd store.now.half (λ h. h.count + count ≤ h.placed.file.length) }
+    ensures lawful { result ≡ true → IsSomeAnd store.now.half (λ h. h.count + count ≤ h.placed.file.length) }
+    ensures only { result ≡ false → IsSomeAnd store.now.half (λ h. h.count + count ≤ h.placed.file.length) → ⊥ }
 {
     match store.staged() {
         Some((file, came)) => came <= file.length && count <= (file.length - came) as usize,
@@ -39,7 +42,8 @@ pub fn may_bring(store: &Store, count: usize) -> bool
 
 /// Whether all bytes of the half staged file have come.
 pub fn may_seal(store: &Store) -> bool
-    ensures { result ≡ true → IsSomeAnd store.now.half (λ h. h.count ≡ h.placed.file.length) }
+    ensures lawful { result ≡ true → IsSomeAnd store.now.half (λ h. h.count ≡ h.placed.file.length) }
+    ensures only { result ≡ false → IsSomeAnd store.now.half (λ h. h.count ≡ h.placed.file.length) → ⊥ }
 {
     match store.staged() {
         Some((file, came)) => came == file.length,
@@ -54,6 +58,7 @@ pub fn may_switch(store: &Store, manifest: &[u8], files: &[Listed]) -> bool
     ensures held { result ≡ true → All (λ f. is_held store.now f ≡ true) files.now }
     ensures some { result ≡ true → 1 ≤ length manifest.now }
     ensures long { result ≡ true → length manifest.now ≤ MAX_TEXT }
+    ensures only { result ≡ false → AreHeld store.now files.now → 1 ≤ length manifest.now → length manifest.now ≤ MAX_TEXT → ⊥ }
 {
     files.len() <= MAX_FILES as usize
         && !manifest.is_empty()
@@ -64,7 +69,8 @@ pub fn may_switch(store: &Store, manifest: &[u8], files: &[Listed]) -> bool
 
 // Whether the ids of these files ascend.
 fn is_ascending(files: &[Listed]) -> bool
-    ensures { result ≡ true → AllPairs (λ f g. f.media.0 < g.media.0) files.now }
+    ensures lawful { result ≡ true → AllPairs (λ f g. f.media.0 < g.media.0) files.now }
+    ensures only { result ≡ false → AllPairs (λ f g. f.media.0 < g.media.0) files.now → ⊥ }
 {
     for i in 1..files.len() {
         if files[i - 1].media.0 >= files[i].media.0 {
@@ -76,7 +82,8 @@ fn is_ascending(files: &[Listed]) -> bool
 
 // Whether each of these files is held.
 fn are_held(store: &Store, files: &[Listed]) -> bool
-    ensures { result ≡ true → All (λ f. is_held store.now f ≡ true) files.now }
+    ensures lawful { result ≡ true → All (λ f. is_held store.now f ≡ true) files.now }
+    ensures only { result ≡ false → All (λ f. is_held store.now f ≡ true) files.now → ⊥ }
 {
     for file in files {
         if !store.held(file) {

@@ -1,7 +1,9 @@
 // A list of calls, one behind another.
-ghost use Rattle.std.specs.Prelude.{◌≡◌, ℕ, ◌+◌, OnOk, IfErr, IsErrOf};
+ghost use Rattle.std.specs.Prelude.{◌≡◌, ℕ, ◌+◌, OnOk, IfErr, IsErrOf, Contains};
 ghost use Rattle.sg_disk.specs.Runs.{LeavesOnly, Ran, Broke};
 ghost use Rattle.sg_disk.specs.StandsFor.{HasOneJournal};
+ghost use Rattle.sg_store_runs.specs.declared.call.Call.{Call};
+ghost use Rattle.sg_store_runs.specs.Lawful.{IsLawful};
 ghost use Rattle.sg_store_runs.specs.Stage.{Stage, IsAt};
 ghost use Rattle.sg_store_runs.specs.Steps.{Runs, StandsForSome};
 ghost use Rattle.sg_store_runs.specs.Stops.{BlamesDisk};
@@ -30,6 +32,7 @@ pub fn run<D: Disk>(
     ensures journal { OnOk result ((D.view disk.old).told → HasOneJournal (D.view disk.old) → HasOneJournal (D.view disk.new)) }
     ensures passed { OnOk result (Ran 0 (D.view disk.old) (D.view disk.new)) }
     ensures broke { IsErrOf result Stop.Disk → Broke (D.view disk.old) (D.view disk.new) }
+    ensures unlawful { IsErrOf result Stop.Unlawful → (call : Call) × Contains calls.now call × (IsLawful store.new call → ⊥) }
 
     // No opening among the calls finds the disk without a store, or damaged.
     ensures undamaged { (start : Stage) → IsAt (D.view disk.old) store.old start → IfErr result (λ stop. BlamesDisk stop → ⊥) }

@@ -3,6 +3,7 @@ ghost use Rattle.std.specs.Prelude.{◌≡◌, ℕ, ◌+◌, List, [], ◌∷◌
 ghost use Rattle.sg_disk.specs.Runs.{LeavesOnly, Ran, Broke};
 ghost use Rattle.sg_disk.specs.StandsFor.{HasOneJournal};
 ghost use Rattle.sg_store_runs.specs.declared.call.Call.{Call};
+ghost use Rattle.sg_store_runs.specs.Lawful.{IsLawful};
 ghost use Rattle.sg_store_runs.specs.Stage.{Stage, Shows, IsAt};
 ghost use Rattle.sg_store_runs.specs.Steps.{Step, StandsForSome};
 ghost use Rattle.sg_store_runs.specs.Stops.{BlamesDisk};
@@ -21,6 +22,8 @@ fn begin(store: &mut Store, file: &Listed) -> Result<(), Stop>
     ensures room { store.new.room ≡ store.old.room }
     ensures passed { IsErrOf result Stop.Disk → ⊥ }
     ensures undamaged { IfErr result (λ stop. BlamesDisk stop → ⊥) }
+    ensures unlawful { IsErrOf result Stop.Unlawful → IsLawful store.old (Call.Begin file.now) → ⊥ }
+    ensures kept { IsErrOf result Stop.Unlawful → store.new ≡ store.old }
 {
     if !may_begin(store, file) {
         return Err(Stop::Unlawful);
@@ -35,6 +38,8 @@ fn seal(store: &mut Store) -> Result<(), Stop>
     ensures room { store.new.room ≡ store.old.room }
     ensures passed { IsErrOf result Stop.Disk → ⊥ }
     ensures undamaged { IfErr result (λ stop. BlamesDisk stop → ⊥) }
+    ensures unlawful { IsErrOf result Stop.Unlawful → IsLawful store.old Call.Seal → ⊥ }
+    ensures kept { IsErrOf result Stop.Unlawful → store.new ≡ store.old }
 {
     if !may_seal(store) {
         return Err(Stop::Unlawful);
@@ -61,6 +66,8 @@ fn bring<D: Disk>(store: &mut Store, disk: &mut D, bytes: &[u8]) -> Result<(), S
     ensures passed { OnOk result (Ran 0 (D.view disk.old) (D.view disk.new)) }
     ensures broke { IsErrOf result Stop.Disk → Broke (D.view disk.old) (D.view disk.new) }
     ensures undamaged { IfErr result (λ stop. BlamesDisk stop → ⊥) }
+    ensures unlawful { IsErrOf result Stop.Unlawful → IsLawful store.old (Call.Bytes bytes.now) → ⊥ }
+    ensures kept { IsErrOf result Stop.Unlawful → store.new ≡ store.old }
 {
     if !may_bring(store, bytes.len()) {
         return Err(Stop::Unlawful);
@@ -84,6 +91,8 @@ fn switch<D: Disk>(
     ensures passed { OnOk result (Ran 0 (D.view disk.old) (D.view disk.new)) }
     ensures broke { IsErrOf result Stop.Disk → Broke (D.view disk.old) (D.view disk.new) }
     ensures undamaged { IfErr result (λ stop. BlamesDisk stop → ⊥) }
+    ensures unlawful { IsErrOf result Stop.Unlawful → IsLawful store.old (Call.Switch manifest.now files.now) → ⊥ }
+    ensures kept { IsErrOf result Stop.Unlawful → store.new ≡ store.old }
 {
     if !may_switch(store, manifest, files) {
         return Err(Stop::Unlawful);
@@ -101,6 +110,8 @@ fn open_again<D: Disk>(alloc: Global, store: &mut Store, disk: &mut D) -> Result
     ensures passed { OnOk result (Ran 0 (D.view disk.old) (D.view disk.new)) }
     ensures broke { IsErrOf result Stop.Disk → Broke (D.view disk.old) (D.view disk.new) }
     ensures undamaged { (old : Stage) → IsAt (D.view disk.old) store.old old → IfErr result (λ stop. BlamesDisk stop → ⊥) }
+    ensures unlawful { IsErrOf result Stop.Unlawful → IsLawful store.old Call.Open → ⊥ }
+    ensures kept { IsErrOf result Stop.Unlawful → store.new ≡ store.old }
 {
     *store = Store::open(alloc, disk)?;
     Ok(())
@@ -121,6 +132,8 @@ pub fn step<D: Disk>(
     ensures passed { OnOk result (Ran 0 (D.view disk.old) (D.view disk.new)) }
     ensures broke { IsErrOf result Stop.Disk → Broke (D.view disk.old) (D.view disk.new) }
     ensures undamaged { (old : Stage) → IsAt (D.view disk.old) store.old old → IfErr result (λ stop. BlamesDisk stop → ⊥) }
+    ensures unlawful { IsErrOf result Stop.Unlawful → IsLawful store.old call.now → ⊥ }
+    ensures kept { IsErrOf result Stop.Unlawful → store.new ≡ store.old }
 {
     match call {
         Call::Begin(file) => begin(store, file),

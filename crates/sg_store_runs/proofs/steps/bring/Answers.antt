@@ -20,7 +20,7 @@ returns-clause-stepped g c old at =
     let w = g.D.Disk.view c.stage_bytes.new.disk in
     let s = c.args.store.now in
     let bytes = c.args.bytes.now in
-    let found = some_half s.half (λ h. h.count + length bytes ≤ h.placed.file.length) (c.may_bring.ensures c.if-not-may_bring.false) in
+    let found = some_half s.half (λ h. h.count + length bytes ≤ h.placed.file.length) (c.may_bring.ensures.lawful c.if-not-may_bring.false) in
     let there = half_there s old.contents v.bytes found.0 found.1 (settled_read v old.contents at.ready.settled) at.ready.knows in
     let fits : length there.f.bytes + length bytes ≤ there.f.listed.length = omega (arith, there.long, found.2, ap (λ (l : Listed). l.length) there.listed) in
     brings v w s c.stage_bytes.new.self old there.f bytes there.is fits c.in_ok-stage_bytes.ensures.ready c.in_ok-stage_bytes.ensures.sealed_bytes c.in_ok-stage_bytes.ensures.half_bytes at

@@ -1,0 +1,33 @@
+-- What a store asks of each call.
+use Rattle.std.specs.Prelude.{◌≡◌, ◌+◌, ◌<◌, ◌≤◌, List, length, All, AllPairs, IsSomeAnd, None, true, false}
+use Rattle.sg_base.specs.declared.file.Listed.{Listed}
+use Rattle.sg_disk.specs.declared.places.TheConstants.{MAX_FILES, MAX_FILE_LEN, MAX_TEXT}
+use Rattle.sg_store.specs.Ready.{is_held}
+use Rattle.sg_store.specs.declared.store.Store.{Store}
+use Rattle.sg_store_runs.specs.declared.call.Call.{Call}
+use Rattle.sg_store_runs.specs.declared.call.Call.TheVariants.{Begin, Bytes, Seal, Keep, Switch, Open}
+
+-- the files of a switch: at most 512, by strictly ascending id, each held
+pub record AreHeld (s : Store) (files : List Listed) : Type 0 where
+  pub few : length files ≤ MAX_FILES
+  pub ascending : AllPairs (λ f g. f.media.0 < g.media.0) files
+  pub held : All (λ f. is_held s f ≡ true) files
+
+-- a file that may be begun: within its limits, not held, with nothing half staged and room on the shelf
+pub record MayBegin (s : Store) (file : Listed) : Type 0 where
+  pub media : 1 ≤ file.media.0
+  pub some : 1 ≤ file.length
+  pub long : file.length ≤ MAX_FILE_LEN
+  pub new : is_held s file ≡ false
+  pub idle : s.half ≡ None
+  pub few : length s.staged < MAX_FILES
+
+abbrev pub IsLawful : Store → Call → Type 0
+IsLawful s (Begin file) = MayBegin s file
+-- so many bytes more belong to the half staged file
+IsLawful s (Bytes bytes) = IsSomeAnd s.half (λ h. h.count + length bytes ≤ h.placed.file.length)
+-- all its bytes have come
+IsLawful s Seal = IsSomeAnd s.half (λ h. h.count ≡ h.placed.file.length)
+IsLawful s (Keep files) = Unit {0}
+IsLawful s (Switch manifest files) = AreHeld s files × (1 ≤ length manifest) × (length manifest ≤ MAX_TEXT)
+IsLawful s Open = Unit {0}
