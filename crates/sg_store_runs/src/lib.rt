@@ -16,3 +16,6 @@ mod stop;
 pub use call::Call;
 pub use runs::run;
 pub use stop::Stop;
+
+#[cfg(test)]
+mod tests;

@@ -15,8 +15,12 @@ use sg_disk::{DATA, Disk};
 use sg_store::Store;
 use std::alloc::Global;
 
-/// Makes calls in their order, up to the first that isn't lawful or that the store refuses, over the disk on which the store
-/// was opened.
+/// Makes calls in their order, on the disk on which the store was opened, up to the first that isn't lawful or that the store
+/// refuses.
+///
+/// `Unlawful` comes before a call that the store doesn't let be made as things stand. `Disk` comes only where the disk's
+/// count of faults rose. After `Disk`, and after a refused `Call::Open`, the store has to be opened again. Only
+/// `Call::Open` takes memory, all that a store needs.
 pub fn run<D: Disk>(
     alloc: Global,
     store: &mut Store,
