@@ -1,5 +1,5 @@
 -- The JSON of a valid row of a schedule reads as the row.
-use Rattle.std.proofs.Common.{◌≡◌, ℕ, false, ◌^◌, ◌<◌, ◌≤◌, List, length, Result, Ok, refl, sym, ap, ◌∙◌, lt-ltb, arith}
+use Rattle.std.proofs.Common.{◌≡◌, ℕ, false, ◌^◌, ◌<◌, ◌≤◌, List, length, Ok, refl, lt-ltb, arith}
 use Rattle.std.specs.Prelude.{Option, Some, None, IfSome, codes}
 use Rattle.std.specs.Str.{bytes_eq}
 use Rattle.serde_json.specs.Data.{string}
@@ -17,15 +17,12 @@ use Rattle.sg_base.specs.declared.zone.ZoneRule.TheVariants.{Offset, Posix}
 use Rattle.sg_base.specs.Daypart.{DaypartRow}
 use Rattle.sg_base.specs.Repeat.{RepeatRow, IsRepeat}
 use Rattle.sg_base.specs.Event.{EventRow}
-use Rattle.sg_rows.specs.declared.form.Form.TheVariants.{Manifest, Edit}
-use Rattle.sg_rows.specs.declared.scheduled.EventRow.{EventRow as ScheduledRow}
-use Rattle.sg_rows.specs.EditRows.{scheduled_json}
-use Rattle.sg_rows.specs.declared.fault.RowFault.{RowFault}
+use Rattle.sg_rows.specs.declared.form.Form.TheVariants.{Manifest}
 use Rattle.sg_rows.specs.Zone.{IsZone}
-use Rattle.sg_rows.specs.Rows.{IsLayoutId, IsCampaignRow, IsException, IsDaypartRow, IsTarget, IsWhen, IsRepeatRow, IsEventRow, IsLayoutRow, IsListed}
-use Rattle.sg_rows.specs.Text.{whole, layout_json, file_json, layout_id_json, campaign_json, exception_json, daypart_json, weekdays, unit_text, until_json, repeat_json, target_json, when_json, event_json, zone_json}
+use Rattle.sg_rows.specs.Rows.{IsLayoutId, IsCampaignRow, IsException, IsDaypartRow, IsTarget, IsWhen, IsRepeatRow, IsEventRow}
+use Rattle.sg_rows.specs.Text.{layout_id_json, campaign_json, exception_json, daypart_json, unit_text, until_json, repeat_json, target_json, when_json, event_json, zone_json}
 use Rattle.sg_rows.specs.Parts.{number_at, nullable_at}
-use Rattle.sg_rows.specs.Reading.{layout_id_at, some_layouts, campaign_at, window_at, small, exception_at, daypart_at, unit_at, repeat_at, is_later_repeat, target_at, custom_at, named_at, when_at, parts_at, made_repeat, made_event, event_at, rule_at, zone_at}
+use Rattle.sg_rows.specs.Reading.{layout_id_at, some_layouts, campaign_at, window_at, exception_at, daypart_at, unit_at, repeat_at, is_later_repeat, target_at, custom_at, named_at, when_at, parts_at, made_repeat, made_event, event_at, rule_at, zone_at}
 use Rattle.sg_rows.proofs.ZoneLemmas.{minutes_of_zone, telling_again}
 use Rattle.sg_rows.proofs.DayLemmas.{days_again}
 use Rattle.sg_rows.proofs.OrderLemmas.{sorted_again, rises_from_ascends}
@@ -80,7 +77,7 @@ until_again None h = refl
 until_again (Some day) h = rw (lt-ltb day (2 ^ 32) h) refl
 
 -- a repeat of its form, whatever its own fault
-repeat_again : (o : Option RepeatRow) → IfSome o IsRepeatRow → nullable_at repeat_at (repeat_json o) ≡ Ok o
+pub repeat_again : (o : Option RepeatRow) → IfSome o IsRepeatRow → nullable_at repeat_at (repeat_json o) ≡ Ok o
 unfolding repeat_at
 repeat_again None h = refl
 repeat_again (Some r) h =
@@ -97,21 +94,21 @@ unit_now Week = refl
 unit_now Month = refl
 unit_now Year = refl
 
-repeat_now : (o : Option RepeatRow) → is_later_repeat (repeat_json o) ≡ false
+pub repeat_now : (o : Option RepeatRow) → is_later_repeat (repeat_json o) ≡ false
 repeat_now None = refl
 repeat_now (Some r) = unit_now r.unit
 
-target_again : (t : Target) → IsTarget t → target_at (target_json t) ≡ Ok t
+pub target_again : (t : Target) → IsTarget t → target_at (target_json t) ≡ Ok t
 target_again (Layout id) h = rw (id_again id.0 h) refl
 target_again (Campaign id) h = rw (id_again id.0 h) refl
 
-when_again : (w : When) → IsWhen w → when_at (when_json w) ≡ Ok w
+pub when_again : (w : When) → IsWhen w → when_at (when_json w) ≡ Ok w
 unfolding custom_at named_at
 when_again Always h = refl
 when_again (Custom from to) h = rw (lt-ltb from (2 ^ 32) h.0, lt-ltb to (2 ^ 32) h.1) refl
 when_again (Named daypart date) h = rw (lt-ltb date (2 ^ 32) h.1, id_again daypart.0 h.0) refl
 
--- the members of an event, whatever its form
+-- the members of an event
 pub parts_again : (e : EventRow) → IsEventRow e → parts_at Manifest (event_json e) ≡ Ok e
 unfolding parts_at
 parts_again e h =
@@ -124,20 +121,6 @@ parts_again e h =
       lt-ltb e.share (2 ^ 32) h.share,
       target_again e.target h.target,
       when_again e.when h.when,
-    ) refl
-
-pub parts_again_in_edit : (e : ScheduledRow) → IsEventRow e.event → parts_at Edit (scheduled_json e) ≡ Ok e.event
-unfolding parts_at
-parts_again_in_edit e h =
-    rw (
-      repeat_now e.event.repeat,
-      id_again e.event.id.0 h.id,
-      lt-ltb e.event.order (2 ^ 32) h.order,
-      lt-ltb e.event.priority (2 ^ 32) h.priority,
-      repeat_again e.event.repeat h.repeat,
-      lt-ltb e.event.share (2 ^ 32) h.share,
-      target_again e.event.target h.target,
-      when_again e.event.when h.when,
     ) refl
 
 pub made_event_again : (e : EventRow) → IsEventRow e → made_event e ≡ Ok e

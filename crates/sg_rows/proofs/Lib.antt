@@ -9,4 +9,3 @@ pub mod DayLemmas
 pub mod SoundRows
 pub mod AgainRows
 pub mod AgainSchedules
-pub mod AgainEdits

@@ -1,27 +1,11 @@
--- The members of an object are as many as the entries of its map; and a key is UTF-8.
-use Rattle.std.proofs.Common.{◌≡◌, ℕ, ◌+◌, ◌<◌, ◌≤◌, ◌&&◌, ◌||◌, nat_le, nat_lt, Bool, true, false, List, [], ◌∷◌, length, refl, ap, ◌∙◌, arith, add-one}
-use Rattle.std.proofs.lemmas.Bool.{and_parts}
-use Rattle.std.proofs.lemmas.Bool.Decides.{nat_tests}
-use Rattle.std.proofs.lemmas.Str.{IsUtf8-from_ascii}
-use Rattle.std.proofs.lemmas.Str.Ascii.{IsAscii-nil, IsAscii-cons}
-use Rattle.std.specs.Prelude.{String, IsAscii, IsUtf8, IsTrue}
-use Rattle.std.specs.List.{list_all}
+-- The members of an object are as many as the entries of its map.
+use Rattle.std.proofs.Common.{◌≡◌, List, [], ◌∷◌, length, refl, add-one}
+use Rattle.std.specs.Prelude.{String}
 use Rattle.std.specs.declared.alloc.Global.{Global}
 use Rattle.serde_json.specs.declared.value.Value.{Value}
 use Rattle.serde_json.specs.View.{members_view}
 use Rattle.sg_rows.specs.Parts.{count_of}
-use Rattle.sg_rows.specs.EditRows.{is_key, is_key_byte}
 
 pub counted : (ms : List (String Global × Value)) → count_of (members_view ms) ≡ length ms
 counted [] = refl
 counted (m ∷ ms) = rw (counted ms, add-one) refl
-
-key_low : (b : ℕ) → is_key_byte b ≡ true → b < 128
-key_low b e = grind (arith, nat_tests)
-
-key_ascii : (bs : List ℕ) → list_all is_key_byte bs ≡ true → IsAscii bs
-key_ascii [] e = IsAscii-nil
-key_ascii (b ∷ bs) e = let parts = and_parts _ _ e in IsAscii-cons b bs (key_low b parts.0) (key_ascii bs parts.1)
-
-pub utf8_of_key : (bs : List ℕ) → IsTrue (is_key bs) → IsUtf8 bs
-utf8_of_key bs e = let parts = and_parts _ _ e in IsUtf8-from_ascii bs (key_ascii bs parts.1)

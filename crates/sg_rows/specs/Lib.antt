@@ -5,5 +5,5 @@ pub mod Faults
 pub mod Parts
 pub mod Order
 pub mod Reading
-pub mod EditRows
+pub mod Ids
 pub mod Compact

@@ -53,8 +53,9 @@ pub fn write_list<T: Entry>(alloc: Global, rows: &[T]) -> Result<Value, AllocErr
     Ok(Value::Array(values))
 }
 
-/// Reads each entry, in one pass.
-pub(crate) fn read_list<T: Entry>(alloc: Global, value: &Value) -> Result<Vec<T>, RowFault>
+/// Reads each entry, in one pass. It is refused with `Shape` where there is no list, and else with the first fault of an
+/// entry.
+pub fn read_list<T: Entry>(alloc: Global, value: &Value) -> Result<Vec<T>, RowFault>
     ensures gives { Gives (λ v. v.items) result (list_at T.at (view value.now)) }
     ensures sound { IfOk result (λ v. AllByRecursion T.valid v.items) }
 {

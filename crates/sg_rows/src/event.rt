@@ -33,7 +33,8 @@ fn read_target(value: &Value) -> Result<Target, RowFault>
     }
 }
 
-pub(crate) fn write_target(alloc: Global, target: Target) -> Result<Value, AllocError>
+/// What an event shows, as JSON.
+pub fn write_target(alloc: Global, target: Target) -> Result<Value, AllocError>
     ensures { IfOk result (λ v. view v ≡ target_json target) }
 {
     match target {
@@ -99,7 +100,8 @@ fn read_when(value: &Value) -> Result<When, RowFault>
     }
 }
 
-pub(crate) fn write_when(alloc: Global, when: When) -> Result<Value, AllocError>
+/// When an event is shown, as JSON.
+pub fn write_when(alloc: Global, when: When) -> Result<Value, AllocError>
     ensures { IfOk result (λ v. view v ≡ when_json when) }
 {
     match when {
@@ -111,7 +113,7 @@ pub(crate) fn write_when(alloc: Global, when: When) -> Result<Value, AllocError>
 
 /// The values of an event, each of its form. Contracts see them as the event that they would make.
 #[derive(Clone, Copy, Debug)]
-pub(crate) struct EventParts {
+pub struct EventParts {
     id: EventId,
     target: Target,
     when: When,
@@ -131,9 +133,9 @@ impl Model for EventParts {
     ghost inverse = { λ e. record { id = e.id; target = e.target; when = e.when; repeat = e.repeat; order = e.order; priority = e.priority; share = e.share } };
 }
 
-/// The values of an event's own seven members, where it is of its form.
+/// The values of an event's own seven members, where it is of its form. It is refused with `Later`, then with `Shape`.
 #[tactic(auto, unfolding(crate::specs::Reading::parts_at))]
-pub(crate) fn read_parts(form: Form, value: &Value) -> Result<EventParts, RowFault>
+pub fn read_event_parts(form: Form, value: &Value) -> Result<EventParts, RowFault>
     ensures gives { Gives (λ e. e) result (parts_at form (view value.now)) }
     ensures sound { IfOk result IsEventParts }
 {
@@ -158,7 +160,7 @@ pub(crate) fn read_parts(form: Form, value: &Value) -> Result<EventParts, RowFau
 }
 
 /// The event that values make. The fault of its repeat comes before its own.
-pub(crate) fn made(parts: EventParts) -> Result<Event, RowFault>
+pub fn make_event(parts: EventParts) -> Result<Event, RowFault>
     requires { IsEventParts parts }
     ensures gives { Gives (λ e. e) result (made_event parts) }
     ensures sound { IfOk result IsEventRow }
@@ -220,8 +222,8 @@ impl Entry for Event {
     }
 
     fn read(_alloc: Global, value: &Value) -> Result<Event, RowFault> {
-        let parts = read_parts(Form::Manifest, value)?;
-        made(parts)
+        let parts = read_event_parts(Form::Manifest, value)?;
+        make_event(parts)
     }
 }
 

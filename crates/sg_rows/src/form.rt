@@ -5,7 +5,7 @@ ghost use Rattle.sg_rows.specs.Reading.{event_members};
 
 /// In what a row stands. A later version of the format is a form of its own.
 #[derive(Clone, Copy, Debug, PartialEq, Eq)]
-pub(crate) enum Form {
+pub enum Form {
     /// A list of a manifest.
     Manifest,
     /// An edit, where an event also says for which displays and groups it is.

@@ -63,7 +63,7 @@ pub fn whole(value: &Value) -> Result<u32, RowFault>
 
 /// The id of a row: a number of at least 1.
 #[tactic(auto, unfolding(crate::specs::Parts::id_at))]
-pub(crate) fn whole_id(value: &Value) -> Result<u32, RowFault>
+pub fn whole_id(value: &Value) -> Result<u32, RowFault>
     ensures gives { Gives (λ n. n) result (id_at (view value.now)) }
     ensures sound { IfOk result IsId }
 {
@@ -87,7 +87,7 @@ pub fn id(value: &Value, name: &str) -> Result<u32, RowFault>
 }
 
 /// A text.
-pub(crate) fn text(value: &Value) -> Result<&str, RowFault>
+pub fn text(value: &Value) -> Result<&str, RowFault>
     ensures { Gives (λ t. t.now) result (text_at (view value.now)) }
 {
     value.as_str().ok_or(RowFault::Shape)

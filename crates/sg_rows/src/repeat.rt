@@ -244,7 +244,8 @@ pub(crate) fn is_later(value: &Value) -> bool
     }
 }
 
-pub(crate) fn write_repeat(alloc: Global, repeat: &Option<Repeat>) -> Result<Value, AllocError>
+/// How an event repeats, as JSON, or null.
+pub fn write_repeat(alloc: Global, repeat: &Option<Repeat>) -> Result<Value, AllocError>
     ensures { IfOk result (λ v. view v ≡ repeat_json repeat.now) }
 {
     match repeat {

@@ -3,17 +3,15 @@
 ghost use Rattle.std.specs.Prelude.{◌≡◌, ◌≢◌, IfOk, Ok};
 ghost use Rattle.serde_json.specs.View.{view};
 ghost use Rattle.sg_rows.specs.Faults.{Gives};
-ghost use Rattle.sg_rows.specs.EditRows.{RowView, IsRow, kind_of, row_at, row_json};
+ghost use Rattle.sg_edit_rows.specs.EditRows.{RowView, IsRow, kind_of, row_at, row_json};
 ghost use Rattle.sg_rows.specs.declared.kind.Kind.TheVariants.{Client};
 
 use crate::display::{DisplayRow, read_display, write_display};
-use crate::entry::Entry;
-use crate::fault::RowFault;
 use crate::group::{read_group, write_group};
-use crate::kind::Kind;
 use crate::scheduled::{EventRow, read_scheduled, write_scheduled};
 use serde_json::Value;
 use sg_base::{Campaign, Daypart, GroupId, Layout, Listed};
+use sg_rows::{Entry, Kind, RowFault};
 use std::alloc::{AllocError, Global};
 
 /// A row of the server.
@@ -29,7 +27,7 @@ pub enum Row {
 }
 
 impl Row {
-    ghost use Rattle.sg_rows.specs.EditRows.{kind_of};
+    ghost use Rattle.sg_edit_rows.specs.EditRows.{kind_of};
 
     /// Its kind, never `Client`.
     pub fn kind(&self) -> Kind

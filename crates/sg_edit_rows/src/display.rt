@@ -4,15 +4,12 @@ ghost use Rattle.std.specs.Prelude.{◌≡◌, ◌<◌, IfOk, IsTrue};
 ghost use Rattle.std.specs.List.{list_all};
 ghost use Rattle.serde_json.specs.View.{view};
 ghost use Rattle.sg_rows.specs.Faults.{Gives};
-ghost use Rattle.sg_rows.specs.EditRows.{display_at, display_json, key_at, is_key, is_key_byte, IsDisplay};
+ghost use Rattle.sg_edit_rows.specs.EditRows.{display_at, display_json, key_at, is_key, is_key_byte, IsDisplay};
 
-use crate::entry::write_list;
-use crate::fault::RowFault;
 use crate::group::read_few;
-use crate::part;
-use crate::zone::{read_zone, write_zone};
 use serde_json::{Value, json};
 use sg_base::{DisplayId, GroupId, LayoutId, Rows, ZoneRule};
+use sg_rows::{RowFault, part, read_zone, write_list, write_zone};
 use std::alloc::{AllocError, Global};
 
 /// The most letters and digits of a key.
@@ -86,7 +83,7 @@ pub(crate) fn read_display(alloc: Global, value: &Value) -> Result<DisplayRow, R
 }
 
 /// The display as JSON. Its key is ASCII.
-#[tactic(auto, using(crate::proofs::PartLemmas::utf8_of_key))]
+#[tactic(auto, using(crate::proofs::KeyLemmas::utf8_of_key))]
 pub(crate) fn write_display(alloc: Global, display: &DisplayRow) -> Result<Value, AllocError>
     requires { IsDisplay display.now }
     ensures { IfOk result (λ v. view v ≡ display_json display.now) }

@@ -1,76 +1,19 @@
-//! Groups of displays in JSON, and lists of the ids of groups and displays.
+//! Groups of displays in JSON, and lists of a few ids.
 
 ghost use Rattle.std.specs.Prelude.{◌≡◌, map, IfOk};
 ghost use Rattle.std.specs.List.{AllByRecursion};
 ghost use Rattle.serde_json.specs.View.{view};
 ghost use Rattle.sg_rows.specs.Faults.{Gives};
-ghost use Rattle.sg_rows.specs.EditRows.{group_at, group_json, rise_from, few_at, AreFew, IsGroup};
+ghost use Rattle.sg_edit_rows.specs.EditRows.{group_at, group_json, rise_from, few_at, AreFew};
+ghost use Rattle.sg_rows.specs.Ids.{IsGroup};
 
-use crate::entry::{Entry, Keyed, read_list};
-use crate::fault::RowFault;
-use crate::part;
 use serde_json::{Value, json};
-use sg_base::{DisplayId, GroupId, Rows};
+use sg_base::{GroupId, Rows};
+use sg_rows::{Keyed, RowFault, part, read_list};
 use std::alloc::{AllocError, Global};
 
 /// The most groups of a display, groups of an event and displays of an event.
 const IDS_LIMIT: usize = 32;
-
-#[tactic(auto, unfolding(crate::specs::EditRows::group_id_at))]
-impl Entry for GroupId {
-    ghost use Rattle.sg_rows.specs.EditRows.{group_id_json, group_id_at, IsGroup};
-
-    ghost json = { group_id_json };
-
-    ghost at = { group_id_at };
-
-    ghost valid = { IsGroup };
-
-    fn write(&self, _alloc: Global) -> Result<Value, AllocError> {
-        Ok(Value::from(self.0))
-    }
-
-    fn read(_alloc: Global, value: &Value) -> Result<GroupId, RowFault> {
-        let id = part::whole_id(value)?;
-        Ok(GroupId(id))
-    }
-}
-
-impl Keyed for GroupId {
-    ghost key = { λ g. g.0 };
-
-    fn key(&self) -> u32 {
-        self.0
-    }
-}
-
-#[tactic(auto, unfolding(crate::specs::EditRows::display_id_at))]
-impl Entry for DisplayId {
-    ghost use Rattle.sg_rows.specs.EditRows.{display_id_json, display_id_at, IsDisplayId};
-
-    ghost json = { display_id_json };
-
-    ghost at = { display_id_at };
-
-    ghost valid = { IsDisplayId };
-
-    fn write(&self, _alloc: Global) -> Result<Value, AllocError> {
-        Ok(Value::from(self.0))
-    }
-
-    fn read(_alloc: Global, value: &Value) -> Result<DisplayId, RowFault> {
-        let id = part::whole_id(value)?;
-        Ok(DisplayId(id))
-    }
-}
-
-impl Keyed for DisplayId {
-    ghost key = { λ d. d.0 };
-
-    fn key(&self) -> u32 {
-        self.0
-    }
-}
 
 /// Whether ids ascend, from 1 on.
 fn rise<T: Keyed>(rows: &[T]) -> bool

@@ -1,6 +1,6 @@
 use Rattle.std.proofs.Common.{◌≡◌, map, drop}
-use Rattle.sg_rows.specs.EditRows.{rise_from}
-use Rattle.sg_rows.proofs.group.rise.Given as goal
+use Rattle.sg_edit_rows.specs.EditRows.{rise_from}
+use Rattle.sg_edit_rows.proofs.group.rise.Given as goal
 
 abbrev pub invariant-loop-row : goal.invariant-loop-row
 invariant-loop-row g l =

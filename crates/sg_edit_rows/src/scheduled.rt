@@ -3,17 +3,15 @@
 ghost use Rattle.std.specs.Prelude.{◌≡◌, ◌+◌, ◌<◌, length, IfOk};
 ghost use Rattle.serde_json.specs.View.{view};
 ghost use Rattle.sg_rows.specs.Faults.{Gives};
-ghost use Rattle.sg_rows.specs.EditRows.{scheduled_at, scheduled_json, IsScheduled};
+ghost use Rattle.sg_edit_rows.specs.EditRows.{scheduled_at, scheduled_json, IsScheduled};
 
-use crate::entry::write_list;
-use crate::event::{made, read_parts, write_target, write_when};
-use crate::fault::RowFault;
-use crate::form::Form;
 use crate::group::read_few;
-use crate::part;
-use crate::repeat::write_repeat;
 use serde_json::{Value, json};
 use sg_base::{DisplayId, Event, GroupId, Rows};
+use sg_rows::{
+    Form, RowFault, make_event, part, read_event_parts, write_list, write_repeat, write_target,
+    write_when,
+};
 use std::alloc::{AllocError, Global};
 
 /// An event with the displays and the groups that it is for, at least one in all, each by ascending id.
@@ -31,13 +29,13 @@ pub(crate) fn read_scheduled(alloc: Global, value: &Value) -> Result<EventRow, R
     ensures gives { Gives (λ e. e) result (scheduled_at (view value.now)) }
     ensures sound { IfOk result IsScheduled }
 {
-    let parts = read_parts(Form::Edit, value)?;
+    let parts = read_event_parts(Form::Edit, value)?;
     let displays = read_few(alloc, part::member(value, "displays")?)?;
     let groups = read_few(alloc, part::member(value, "groups")?)?;
     if displays.is_empty() && groups.is_empty() {
         return Err(RowFault::Shape);
     }
-    let event = made(parts)?;
+    let event = make_event(parts)?;
     Ok(EventRow {
         event,
         displays,

@@ -3,13 +3,14 @@
 ghost use Rattle.std.specs.Prelude.{◌≢◌};
 ghost use Rattle.sg_rows.specs.declared.kind.Kind.TheVariants.{Client};
 
-use crate::{Kind, Row, RowFault, read_row, write_row};
+use crate::{Row, read_row, write_row};
 use serde_json::Value;
 use sg_base::{
     CampaignId, DaypartFault, DisplayId, EventFault, GroupId, LayoutFault, LayoutId, MediaId,
     RepeatFault, Target, Window, ZoneRule,
 };
 use sg_calendar::ZoneFault;
+use sg_rows::{Kind, RowFault};
 use std::alloc::Global;
 use std::process::Abort;
 use std::test::Fail;

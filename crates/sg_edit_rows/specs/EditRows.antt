@@ -1,49 +1,27 @@
 -- The rows of edits: those of a manifest, groups, displays, and events with displays and groups. Their JSON, when they
 -- are valid, and which row JSON says.
-use Rattle.std.specs.Prelude.{◌≡◌, ℕ, ◌+◌, ◌<◌, ◌≤◌, ◌&&◌, ◌||◌, true, nat_lt, nat_le, Bool, List, [], ◌∷◌, map, codes, length, IsTrue, Result, Ok, Err}
+use Rattle.std.specs.Prelude.{ℕ, ◌+◌, ◌<◌, ◌&&◌, ◌||◌, true, nat_lt, nat_le, Bool, List, [], ◌∷◌, map, codes, length, IsTrue, Result, Ok, Err}
 use Rattle.std.specs.List.{AllByRecursion, list_all}
 use Rattle.serde_json.specs.Data.{Data, string, object, member, no_members}
 use Rattle.sg_base.specs.declared.ids.GroupId.{GroupId}
-use Rattle.sg_base.specs.declared.ids.DisplayId.{DisplayId}
 use Rattle.sg_rows.specs.declared.fault.RowFault.{RowFault}
 use Rattle.sg_rows.specs.declared.fault.RowFault.TheVariants.{Shape}
 use Rattle.sg_rows.specs.declared.form.Form.TheVariants.{Edit}
 use Rattle.sg_rows.specs.declared.kind.Kind.{Kind}
 use Rattle.sg_rows.specs.declared.kind.Kind.TheVariants as kind
-use Rattle.sg_rows.specs.declared.row.Row.{Row}
-use Rattle.sg_rows.specs.declared.row.Row.TheVariants as row
-use Rattle.sg_rows.specs.declared.display.DisplayRow.{DisplayRow}
-use Rattle.sg_rows.specs.declared.scheduled.EventRow.{EventRow as ScheduledRow}
+use Rattle.sg_edit_rows.specs.declared.row.Row.{Row}
+use Rattle.sg_edit_rows.specs.declared.row.Row.TheVariants as row
+use Rattle.sg_edit_rows.specs.declared.display.DisplayRow.{DisplayRow}
+use Rattle.sg_edit_rows.specs.declared.scheduled.EventRow.{EventRow as ScheduledRow}
 use Rattle.sg_rows.specs.Faults.{◌>>=◌, needs}
+use Rattle.sg_rows.specs.Ids.{IsGroup, IsDisplayId, group_id_json, display_id_json, group_id_at, display_id_at}
 use Rattle.sg_rows.specs.Parts.{exactly, member_at, id_at, text_at, list_at}
 use Rattle.sg_rows.specs.Reading.{file_at, layout_at, campaign_at, daypart_at, zone_at, parts_at, made_event}
 use Rattle.sg_rows.specs.Rows.{IsId, IsListed, IsLayoutRow, IsCampaignRow, IsDaypartRow, IsEventRow}
 use Rattle.sg_rows.specs.Text.{whole, list_of, file_json, layout_json, campaign_json, daypart_json, repeat_json, target_json, when_json, zone_json}
 use Rattle.sg_rows.specs.Zone.{IsZone}
 
--- ---- ids of groups and displays
-
-abbrev pub IsGroup : GroupId → Type 0
-IsGroup g = IsId g.0
-
-abbrev pub IsDisplayId : DisplayId → Type 0
-IsDisplayId d = IsId d.0
-
-abbrev pub group_id_json : GroupId → Data
-group_id_json g = whole g.0
-
-abbrev pub display_id_json : DisplayId → Data
-display_id_json d = whole d.0
-
-unfoldable pub group_id_at : Data → Result GroupId RowFault
-group_id_at d = do
-  id ← id_at d
-  Ok (record { 0 = id })
-
-unfoldable pub display_id_at : Data → Result DisplayId RowFault
-display_id_at d = do
-  id ← id_at d
-  Ok (record { 0 = id })
+-- ---- lists of a few ids
 
 -- each number is above the one before, the first above the last one passed
 abbrev pub rise_from : ℕ → List ℕ → Bool
