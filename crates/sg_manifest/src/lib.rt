@@ -13,18 +13,12 @@ pub use reading::{one_text, read};
 pub use snapshot::Snapshot;
 pub use text::write;
 
-#[cfg(test)]
-mod bounds;
 mod draft;
 mod fault;
-#[cfg(test)]
-mod hostile;
 mod lists;
 mod naming;
 mod order;
 mod place;
 mod reading;
 mod snapshot;
-#[cfg(test)]
-mod tests;
 mod text;

@@ -2,9 +2,9 @@
 
 ghost use Rattle.std.specs.Prelude.{◌≤◌};
 
-use crate::tests::{PLAIN, edited};
-use crate::{ManifestFault, read};
+use crate::texts::{PLAIN, edited};
 use sg_base::LayoutFault;
+use sg_manifest::{ManifestFault, read};
 use sg_rows::{Kind, LimitName, RowFault};
 use std::alloc::Global;
 use std::process::Abort;

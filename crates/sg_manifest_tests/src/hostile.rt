@@ -4,8 +4,8 @@
 //! shown by `Debug`: `OLD -> NEW => FAULT`. Two replacements stand with ` ; ` between them. The faults were worked out by
 //! hand from the order of the checks, and the places of texts that aren't canonical by another program.
 
-use crate::read;
-use crate::tests::{BUSY, PLAIN, edited};
+use crate::texts::{BUSY, PLAIN, edited};
+use sg_manifest::read;
 use std::alloc::Global;
 use std::process::Abort;
 use std::test::Fail;
