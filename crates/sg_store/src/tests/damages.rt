@@ -85,6 +85,10 @@ fn the_first_fault_is_named(rt: HostRuntime) -> Result<(), Fail> {
             damaged(4_104, 0),
         ),
         (
+            vec![in alloc; (4_104, [1, 0, 16].as_slice()), (4_108, &[1, 2])]?,
+            damaged(4_104, 1_048_577),
+        ),
+        (
             vec![in alloc; (4_108, [1, 2].as_slice()), (8_192, &[0])]?,
             damaged(4_108, 513),
         ),
@@ -95,6 +99,15 @@ fn the_first_fault_is_named(rt: HostRuntime) -> Result<(), Fail> {
         (vec![in alloc; (8_224, [1].as_slice())]?, damaged(8_224, 1)),
         (
             vec![in alloc; (8_196, [0].as_slice()), (8_224, &[1])]?,
+            damaged(8_192, 1),
+        ),
+        // A length of 67,108,865, and a place one byte before the data area.
+        (
+            vec![in alloc; (8_196, [1, 0, 0, 4].as_slice()), (8_224, &[0])]?,
+            damaged(8_192, 1),
+        ),
+        (
+            vec![in alloc; (8_216, [255, 175].as_slice()), (8_224, &[0])]?,
             damaged(8_192, 1),
         ),
         (vec![in alloc; (8_218, [0].as_slice())]?, damaged(8_192, 1)),
@@ -131,6 +144,11 @@ fn overlaps_come_last(rt: HostRuntime) -> Result<(), Fail> {
         fault_of(alloc, &mut disk, &[overlap, twin])?,
         damaged(1_073_156, 1)
     );
+    // Another length than the header's.
+    disk.resize(6_467_585)?;
+    assert_eq!(rt; fault_of(alloc, &mut disk, &[])?, damaged(24, ROOM));
+    disk.resize(6_336_512)?;
+    assert_eq!(rt; fault_of(alloc, &mut disk, &[])?, damaged(24, ROOM));
     disk.resize(6_336_511)?;
     assert_eq!(rt;
         fault_of(alloc, &mut disk, &[])?,
@@ -140,6 +158,25 @@ fn overlaps_come_last(rt: HostRuntime) -> Result<(), Fail> {
     assert_eq!(rt;
         fault_of(alloc, &mut disk, &[])?,
         Some(OpenFault::Unformatted)
+    );
+    Ok(())
+}
+
+#[test]
+fn overlaps_of_the_first_slot_come_first(rt: HostRuntime) -> Result<(), Fail> {
+    let alloc = rt.alloc();
+    let mut disk = fresh(alloc, ROOM)?;
+    let mut store = Store::open(alloc, &mut disk)?;
+    let first = stage(&mut store, &mut disk, 1, b"abc", 2)?;
+    let second = stage(&mut store, &mut disk, 2, b"defg", 3)?;
+    switch(&mut store, &mut disk, b"text", &[first, second])?;
+    switch(&mut store, &mut disk, b"next", &[first, second])?;
+    let zero = (8_248, [2].as_slice());
+    let one = (1_077_304, [2].as_slice());
+    assert_eq!(rt; fault_of(alloc, &mut disk, &[one])?, damaged(1_077_280, 2));
+    assert_eq!(rt;
+        fault_of(alloc, &mut disk, &[one, zero])?,
+        damaged(8_224, 2)
     );
     Ok(())
 }
