@@ -1,4 +1,8 @@
 -- How a refusal of the store ends a run.
+use Rattle.std.specs.Prelude.{◌≡◌, ◌<◌, None}
+use Rattle.sg_placing.specs.Placing.{IsLongest}
+use Rattle.sg_store.specs.Ready.{taken_files}
+use Rattle.sg_store.specs.declared.store.Store.{Store}
 use Rattle.sg_slots.specs.declared.fault.OpenFault.{OpenFault}
 use Rattle.sg_slots.specs.declared.fault.OpenFault.TheVariants as open_fault
 use Rattle.sg_store.specs.declared.faults.SwitchFault.{SwitchFault}
@@ -28,3 +32,15 @@ BlamesDisk Disk = ⊥
 BlamesDisk Unformatted = Unit {0}
 BlamesDisk (Damaged place found) = Unit {0}
 BlamesDisk Memory = ⊥
+
+-- What a stop tells of the store as it is then: no gap has the bytes that were needed, nothing is half staged, or the
+-- switch numbers are used up. The others tell nothing of it
+abbrev pub Tells : Store → Stop → Type 0
+Tells s Unlawful = Unit {0}
+Tells s (NoSpace fault) = IsLongest s.room (taken_files s) fault.largest × (fault.largest < fault.need)
+Tells s (DigestDiffers fault) = s.half ≡ None
+Tells s Spent = s.number ≡ 4294967295
+Tells s Disk = Unit {0}
+Tells s Unformatted = Unit {0}
+Tells s (Damaged place found) = Unit {0}
+Tells s Memory = Unit {0}

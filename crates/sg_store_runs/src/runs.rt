@@ -6,7 +6,7 @@ ghost use Rattle.sg_store_runs.specs.declared.call.Call.{Call};
 ghost use Rattle.sg_store_runs.specs.Lawful.{IsLawful};
 ghost use Rattle.sg_store_runs.specs.Stage.{Stage, IsAt};
 ghost use Rattle.sg_store_runs.specs.Steps.{Runs, StandsForSome};
-ghost use Rattle.sg_store_runs.specs.Stops.{BlamesDisk};
+ghost use Rattle.sg_store_runs.specs.Stops.{BlamesDisk, Tells};
 
 use crate::call::Call;
 use crate::steps::step;
@@ -37,6 +37,7 @@ pub fn run<D: Disk>(
     ensures passed { OnOk result (Ran 0 (D.view disk.old) (D.view disk.new)) }
     ensures broke { IsErrOf result Stop.Disk → Broke (D.view disk.old) (D.view disk.new) }
     ensures unlawful { IsErrOf result Stop.Unlawful → (call : Call) × Contains calls.now call × (IsLawful store.new call → ⊥) }
+    ensures told { IfErr result (λ stop. Tells store.new stop) }
 
     // No opening among the calls finds the disk without a store, or damaged.
     ensures undamaged { (start : Stage) → IsAt (D.view disk.old) store.old start → IfErr result (λ stop. BlamesDisk stop → ⊥) }

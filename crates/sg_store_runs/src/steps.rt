@@ -6,7 +6,7 @@ ghost use Rattle.sg_store_runs.specs.declared.call.Call.{Call};
 ghost use Rattle.sg_store_runs.specs.Lawful.{IsLawful};
 ghost use Rattle.sg_store_runs.specs.Stage.{Stage, Shows, IsAt};
 ghost use Rattle.sg_store_runs.specs.Steps.{Step, StandsForSome};
-ghost use Rattle.sg_store_runs.specs.Stops.{BlamesDisk};
+ghost use Rattle.sg_store_runs.specs.Stops.{BlamesDisk, Tells};
 
 use crate::call::Call;
 use crate::lawful::{may_begin, may_bring, may_seal, may_switch};
@@ -23,6 +23,7 @@ fn begin(store: &mut Store, file: &Listed) -> Result<(), Stop>
     ensures passed { IsErrOf result Stop.Disk → ⊥ }
     ensures undamaged { IfErr result (λ stop. BlamesDisk stop → ⊥) }
     ensures unlawful { IsErrOf result Stop.Unlawful → IsLawful store.old (Call.Begin file.now) → ⊥ }
+    ensures told { IfErr result (λ stop. Tells store.new stop) }
     ensures kept { IsErrOf result Stop.Unlawful → store.new ≡ store.old }
 {
     if !may_begin(store, file) {
@@ -39,6 +40,7 @@ fn seal(store: &mut Store) -> Result<(), Stop>
     ensures passed { IsErrOf result Stop.Disk → ⊥ }
     ensures undamaged { IfErr result (λ stop. BlamesDisk stop → ⊥) }
     ensures unlawful { IsErrOf result Stop.Unlawful → IsLawful store.old Call.Seal → ⊥ }
+    ensures told { IfErr result (λ stop. Tells store.new stop) }
     ensures kept { IsErrOf result Stop.Unlawful → store.new ≡ store.old }
 {
     if !may_seal(store) {
@@ -67,6 +69,7 @@ fn bring<D: Disk>(store: &mut Store, disk: &mut D, bytes: &[u8]) -> Result<(), S
     ensures broke { IsErrOf result Stop.Disk → Broke (D.view disk.old) (D.view disk.new) }
     ensures undamaged { IfErr result (λ stop. BlamesDisk stop → ⊥) }
     ensures unlawful { IsErrOf result Stop.Unlawful → IsLawful store.old (Call.Bytes bytes.now) → ⊥ }
+    ensures told { IfErr result (λ stop. Tells store.new stop) }
     ensures kept { IsErrOf result Stop.Unlawful → store.new ≡ store.old }
 {
     if !may_bring(store, bytes.len()) {
@@ -92,6 +95,7 @@ fn switch<D: Disk>(
     ensures broke { IsErrOf result Stop.Disk → Broke (D.view disk.old) (D.view disk.new) }
     ensures undamaged { IfErr result (λ stop. BlamesDisk stop → ⊥) }
     ensures unlawful { IsErrOf result Stop.Unlawful → IsLawful store.old (Call.Switch manifest.now files.now) → ⊥ }
+    ensures told { IfErr result (λ stop. Tells store.new stop) }
     ensures kept { IsErrOf result Stop.Unlawful → store.new ≡ store.old }
 {
     if !may_switch(store, manifest, files) {
@@ -111,6 +115,7 @@ fn open_again<D: Disk>(alloc: Global, store: &mut Store, disk: &mut D) -> Result
     ensures broke { IsErrOf result Stop.Disk → Broke (D.view disk.old) (D.view disk.new) }
     ensures undamaged { (old : Stage) → IsAt (D.view disk.old) store.old old → IfErr result (λ stop. BlamesDisk stop → ⊥) }
     ensures unlawful { IsErrOf result Stop.Unlawful → IsLawful store.old Call.Open → ⊥ }
+    ensures told { IfErr result (λ stop. Tells store.new stop) }
     ensures kept { IsErrOf result Stop.Unlawful → store.new ≡ store.old }
 {
     *store = Store::open(alloc, disk)?;
@@ -133,6 +138,7 @@ pub fn step<D: Disk>(
     ensures broke { IsErrOf result Stop.Disk → Broke (D.view disk.old) (D.view disk.new) }
     ensures undamaged { (old : Stage) → IsAt (D.view disk.old) store.old old → IfErr result (λ stop. BlamesDisk stop → ⊥) }
     ensures unlawful { IsErrOf result Stop.Unlawful → IsLawful store.old call.now → ⊥ }
+    ensures told { IfErr result (λ stop. Tells store.new stop) }
     ensures kept { IsErrOf result Stop.Unlawful → store.new ≡ store.old }
 {
     match call {
