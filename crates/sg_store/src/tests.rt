@@ -18,6 +18,7 @@ mod damages;
 mod files;
 mod limits;
 mod staging;
+mod texts;
 
 const ROOM: u64 = 131_072;
 

@@ -5,7 +5,7 @@ use crate::{Call, Stop, run};
 use md5::{Digest, Md5};
 use sg_base::{Listed, MediaId, Rows};
 use sg_disk::{Fuse, MemDisk, Pick};
-use sg_store::{Format, Store, format};
+use sg_store::{Format, NoSpace, Store, format};
 use std::alloc::{AllocError, Global};
 use std::test::Fail;
 
@@ -186,5 +186,23 @@ fn other_bytes_than_the_listed_ones_stop_a_run(rt: HostRuntime) -> Result<(), Fa
         _ => false,
     };
     assert!(rt; differs);
+    Ok(())
+}
+
+#[test]
+fn a_stop_says_why_it_came(rt: HostRuntime) -> Result<(), Fail> {
+    let no_space = Stop::NoSpace(NoSpace {
+        need: 2,
+        largest: 1,
+    });
+    let text = format!(in rt.alloc(); "{no_space}")?;
+    assert_eq!(rt;
+        text.as_str(),
+        "2 bytes are needed, and the longest gap has 1"
+    );
+    let text = format!(in rt.alloc(); "{}", Stop::Damaged { place: 4, found: 9 })?;
+    assert_eq!(rt; text.as_str(), "the store is damaged at 4: 9");
+    let text = format!(in rt.alloc(); "{}", Stop::Unlawful)?;
+    assert_eq!(rt; text.as_str(), "the call isn't lawful");
     Ok(())
 }

@@ -99,7 +99,9 @@ fn a_snapshot_has_512_files(rt: HostRuntime) -> Result<(), Fail> {
     for media in 1..513 {
         files.push(stage(&mut store, &mut disk, media, &[(media & 1) as u8], 1)?)?;
     }
+    assert!(rt; store.is_full());
     switch(&mut store, &mut disk, b"t", files.as_slice())?;
+    assert!(rt; !store.is_full(), "nothing is staged behind a switch");
     let again = Store::open(alloc, &mut disk)?;
     assert_eq!(rt; (again.files(), again.number()), (512, 1));
     let mut found = [9];
