@@ -1,17 +1,19 @@
--- Exceptions in the order of their weekdays: they have no fault where they had none before, and there is one such order.
-use Rattle.std.proofs.Common.{◌≡◌, ℕ, ◌<◌, ◌≤◌, eqb, false, List, [], ◌∷◌, length, get_or, ◌⊎◌, inl, inr, Option, None, refl, sym, ap, subst, zero, suc, arith}
+-- Windows in the order of their days: they have no fault where they had none before, and there is one such order.
+use Rattle.std.proofs.Common.{◌≡◌, ℕ, ◌<◌, ◌≤◌, eqb, nat_lt, false, List, [], ◌∷◌, length, get_or, ◌⊎◌, inl, inr, Option, None, refl, sym, ap, subst, zero, suc, arith}
 use Rattle.std.specs.List.{list_any, AllByRecursion, All, IsDistinct, Contains}
 use Rattle.std.specs.List.Sorted.{IsPermutation, IsNonDecreasingBy}
 use Rattle.std.proofs.lemmas.Bool.Decides.{nat_tests}
 use Rattle.std.proofs.lemmas.Map.Keys.{IsDistinct-head, IsDistinct-tail, IsDistinct-IsPermutation}
 use Rattle.std.proofs.lemmas.List.Elements.{All-cons, All-nil, All-head, All-tail, All-contains, All-from_recursion}
-use Rattle.std.proofs.lemmas.List.Sorted.{All-permutation, Contains-permutation, IsPermutation-sym, IsPermutation-trans}
+use Rattle.std.proofs.lemmas.List.Sorted.{All-permutation, Contains-permutation, IsPermutation-sym, IsPermutation-trans, length_permutation}
 use Rattle.sg_base.specs.declared.ids.DaypartId.{DaypartId}
 use Rattle.sg_base.specs.declared.daypart.Window.{Window}
-use Rattle.sg_base.specs.declared.daypart.DaypartFault.TheVariants.{DoubleWeekday}
-use Rattle.sg_base.specs.Faults.{first_of, first_in}
-use Rattle.sg_base.specs.Daypart.{window_fault, weekday_fault, double_fault, daypart_fault, Ascends, IsDaypart}
-use Rattle.sg_base.proofs.FaultLemmas.{first_none}
+use Rattle.sg_base.specs.declared.daypart.DaypartFault.{DaypartFault}
+use Rattle.sg_base.specs.declared.daypart.DaypartFault.TheVariants.{DoubleWeekday, ManyDates, DoubleDate}
+use Rattle.sg_base.specs.declared.limits.TheConstants.{MAX_DATES}
+use Rattle.sg_base.specs.Faults.{first_of, first_in, double_of}
+use Rattle.sg_base.specs.Daypart.{window_fault, windows_fault, weekday_fault, double_fault, weekdays_fault, date_fault, double_date_fault, dates_fault, times_fault, daypart_fault, Ascends, IsDaypart}
+use Rattle.sg_base.proofs.FaultLemmas.{first_none, if_none}
 use Rattle.sg_base.proofs.DoubleLemmas.{same, same_flips, distinct_from_none, none_from_distinct}
 
 -- a fault in no entry is a fact of all of them
@@ -46,18 +48,32 @@ ascends_from_distinct (e ∷ f ∷ es) h k =
     let up : e.0 ≤ f.0 = h 0 1 e (omega arith) (omega arith) in
     (grind (arith, nat_tests), ascends_from_distinct (f ∷ es) (rest_rises e (f ∷ es) h) (IsDistinct-tail (same (λ e. e.0)) e (f ∷ es) k))
 
--- exceptions without a fault make a daypart once they are in order
-pub daypart_ordered : (id : DaypartId) (w : Window) (es fs : List (ℕ × Window)) → daypart_fault w es ≡ None → IsPermutation es fs → IsNonDecreasingBy (λ e. e.0) fs
-    → IsDaypart (record { id = id; window = w; exceptions = fs })
-daypart_ordered id w es fs h moved up =
-    let parts = first_none (first_of (window_fault w) (first_in (λ e. window_fault e.1) es)) (first_of (first_in weekday_fault es) (double_fault es)) h in
-    let times = first_none (window_fault w) (first_in (λ e. window_fault e.1) es) parts.0 in
-    let days = first_none (first_in weekday_fault es) (double_fault es) parts.1 in
-    let apart = IsDistinct-IsPermutation (same (λ (e : ℕ × Window). e.0)) (same_flips (λ (e : ℕ × Window). e.0)) es fs moved (distinct_from_none (λ (e : ℕ × Window). e.0) (λ day. DoubleWeekday day) [] es days.1) in
+-- a list without a double, once it is in order, ascends and has no double either
+pub distinct_ordered : (fault : ℕ → DaypartFault) (es fs : List (ℕ × Window)) → double_of (λ (e : ℕ × Window). e.0) fault [] es ≡ None → IsPermutation es fs → IsNonDecreasingBy (λ e. e.0) fs
+    → (double_of (λ (e : ℕ × Window). e.0) fault [] fs ≡ None) × Ascends fs
+distinct_ordered fault es fs h moved up =
+    let apart = IsDistinct-IsPermutation (same (λ (e : ℕ × Window). e.0)) (same_flips (λ (e : ℕ × Window). e.0)) es fs moved (distinct_from_none (λ (e : ℕ × Window). e.0) fault [] es h) in
+    (none_from_distinct (λ (e : ℕ × Window). e.0) fault [] fs (all_new (λ (e : ℕ × Window). e.0) fs) apart, ascends_from_distinct fs up apart)
+
+-- two lists without a fault make a daypart once they are in order
+pub daypart_ordered : (id : DaypartId) (w : Window) (es fs ds gs : List (ℕ × Window)) → daypart_fault w es ds ≡ None
+    → IsPermutation es fs → IsNonDecreasingBy (λ e. e.0) fs → IsPermutation ds gs → IsNonDecreasingBy (λ e. e.0) gs
+    → IsDaypart (record { id = id; window = w; exceptions = fs; dates = gs })
+daypart_ordered id w es fs ds gs h moved up shifted rising =
+    let parts = first_none (times_fault w es ds) (first_of (weekdays_fault es) (dates_fault ds)) h in
+    let times = first_none (window_fault w) (first_of (windows_fault es) (windows_fault ds)) parts.0 in
+    let windows = first_none (windows_fault es) (windows_fault ds) times.1 in
+    let lists = first_none (weekdays_fault es) (dates_fault ds) parts.1 in
+    let weekdays = first_none (first_in weekday_fault es) (double_fault es) lists.0 in
+    let few = if_none (nat_lt MAX_DATES (length ds)) (ManyDates (length ds)) (first_of (first_in date_fault ds) (double_date_fault ds)) lists.1 in
+    let dates = first_none (first_in date_fault ds) (double_date_fault ds) few.1 in
+    let one = distinct_ordered (λ day. DoubleWeekday day) es fs weekdays.1 moved up in
+    let two = distinct_ordered (λ day. DoubleDate day) ds gs dates.1 shifted rising in
+    let long : nat_lt MAX_DATES (length gs) ≡ false = rw (length_permutation ds gs shifted) few.0 in
     record {
-      sound = rw (times.0, none_permuted (λ (e : ℕ × Window). window_fault e.1) es fs moved times.1, none_permuted weekday_fault es fs moved days.0)
-          (none_from_distinct (λ (e : ℕ × Window). e.0) (λ day. DoubleWeekday day) [] fs (all_new (λ (e : ℕ × Window). e.0) fs) apart);
-      ordered = ascends_from_distinct fs up apart;
+      sound = rw (times.0, none_permuted (λ (e : ℕ × Window). window_fault e.1) es fs moved windows.0, none_permuted (λ (e : ℕ × Window). window_fault e.1) ds gs shifted windows.1, none_permuted weekday_fault es fs moved weekdays.0, one.0, long, none_permuted date_fault ds gs shifted dates.0, two.0) refl;
+      ordered = one.1;
+      dates_ordered = two.1;
     }
 
 -- what rises above a weekday rises above an earlier one

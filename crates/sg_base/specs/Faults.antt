@@ -12,7 +12,7 @@ abbrev pub first_in : {X F : Type 0} → (X → Option F) → List X → Option 
 first_in f [] = None
 first_in f (x ∷ xs) = first_of (f x) (first_in f xs)
 
--- the fault of the first entry whose number stands further up
+-- the fault of the first entry whose number stands earlier in the list
 abbrev pub double_of : {X F : Type 0} → (X → ℕ) → (ℕ → F) → List X → List X → Option F
 double_of number fault seen [] = None
 double_of number fault seen (x ∷ xs) =

@@ -7,6 +7,7 @@ use Rattle.sg_base.specs.declared.layout.Item.{Item}
 use Rattle.sg_base.specs.declared.layout.Region.{Region}
 use Rattle.sg_base.specs.declared.layout.LayoutFault.{LayoutFault}
 use Rattle.sg_base.specs.declared.layout.LayoutFault.TheVariants.{NoRegion, TooMany, DoubleRegion, EmptyRegion, ZeroSeconds, TooLong}
+use Rattle.sg_base.specs.declared.limits.TheConstants.{HOUR, MAX_REGIONS, MAX_ITEMS}
 use Rattle.sg_base.specs.Faults.{first_of, first_in, double_of}
 
 pub record LayoutRow : Type 0 where
@@ -30,21 +31,21 @@ zero_fault region k (i ∷ is) = if i.seconds == 0 then Some (ZeroSeconds region
 
 -- more seconds than an hour has
 abbrev pub long_fault : List Item → Option LayoutFault
-long_fault items = if nat_lt 3600 (seconds_of items) then Some (TooLong (seconds_of items)) else None
+long_fault items = if nat_lt HOUR (seconds_of items) then Some (TooLong (seconds_of items)) else None
 
 abbrev pub region_fault : Region → Option LayoutFault
 region_fault r = if length r.items == 0 then Some (EmptyRegion r.id) else
-    (if nat_lt 64 (length r.items) then Some (TooMany (length r.items)) else
+    (if nat_lt MAX_ITEMS (length r.items) then Some (TooMany (length r.items)) else
     first_of (zero_fault r.id 0 r.items) (long_fault r.items))
 
--- a region whose id stands further up
+-- a region whose id stands earlier in the list
 abbrev pub double_fault : List Region → Option LayoutFault
 double_fault rs = double_of (λ r. r.id) (λ id. DoubleRegion id) [] rs
 
 -- the first fault of regions, in the order in which a layout is refused
 abbrev pub layout_fault : List Region → Option LayoutFault
 layout_fault rs = if length rs == 0 then Some NoRegion else
-    (if nat_lt 16 (length rs) then Some (TooMany (length rs)) else
+    (if nat_lt MAX_REGIONS (length rs) then Some (TooMany (length rs)) else
     first_of (double_fault rs) (first_in region_fault rs))
 
 -- a region has an id of at least 1

@@ -1,5 +1,10 @@
 pub mod Faults
+pub mod Causes
+pub mod Stops
+pub mod Seconds
+pub mod Names
 pub mod Layout
 pub mod Daypart
 pub mod Repeat
 pub mod Event
+pub mod Rows

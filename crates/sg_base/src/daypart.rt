@@ -1,4 +1,4 @@
-//! Dayparts: a named daily window with exceptions for weekdays.
+//! Dayparts: a daily window, with other windows for weekdays and for dates.
 
 use crate::daypart_rules::{fault_of, order};
 use crate::ids::DaypartId;
@@ -7,8 +7,8 @@ use std::alloc::AllocError;
 use std::marker::Model;
 use thiserror::Error;
 
-/// A window of a day in seconds of the day, 0 to 86,399. It ends on the next day where its end isn't after
-/// its start.
+/// A window of a day in seconds of the day, 0 to 86,399. It ends on the next day if its end isn't after its
+/// start.
 #[derive(Clone, Copy, Debug, PartialEq, Eq)]
 pub struct Window {
     pub start: u32,
@@ -24,14 +24,22 @@ pub enum DaypartFault {
     BadWeekday(u8),
     #[error("weekday {0} stands twice")]
     DoubleWeekday(u8),
+    #[error("{0} dates of a daypart are too many")]
+    ManyDates(u64),
+    #[error("date {0} is after 2099")]
+    BadDate(u32),
+    #[error("date {0} stands twice")]
+    DoubleDate(u32),
 }
 
-/// A named daily window, with exceptions for weekdays (1 is Monday) by ascending weekday.
+/// A daily window. A date may have a window of its own, and so may a weekday (1 is Monday): that of the date goes
+/// first, then that of the date's weekday. Both lists ascend.
 #[derive(Debug, Drop)]
 pub struct Daypart {
     id: DaypartId,
     window: Window,
     exceptions: Rows<(u8, Window)>,
+    dates: Rows<(u32, Window)>,
 }
 
 impl Model for Daypart {
@@ -39,44 +47,53 @@ impl Model for Daypart {
 
     ghost Value = { DaypartRow };
 
-    ghost view = { λ d. record { id = d.id; window = d.window; exceptions = d.exceptions } };
+    ghost view = { λ d. record { id = d.id; window = d.window; exceptions = d.exceptions; dates = d.dates } };
 
-    ghost invariant = { λ d. IsDaypart (record { id = d.id; window = d.window; exceptions = d.exceptions }) };
+    ghost invariant = { λ d. IsDaypart
+        (record { id = d.id; window = d.window; exceptions = d.exceptions; dates = d.dates }) };
 }
 
 impl Daypart {
     ghost use Rattle.std.specs.Prelude.{◌≡◌, ℕ, List, Some, None, MatchResult, IfOk, IsPermutation};
     ghost use Rattle.sg_base.specs.Daypart.{IsDaypart, Ascends, daypart_fault};
 
-    /// A daypart, whose exceptions are put in the order of their weekdays. It is refused with `BadTime` for a
-    /// start or an end above 86,399 (the window's, then each exception's in the order given), `BadWeekday`
-    /// outside 1 to 7, and `DoubleWeekday` for one that stands further up; the first of these is the
-    /// answer, each looked for in all the exceptions before the next. It takes no memory, and a refusal
-    /// drops the exceptions.
+    /// A daypart, whose exceptions are put in the order of their weekdays, and whose dates ascend. It is refused
+    /// with `BadTime` for a start or an end above 86,399 (the window's, then each exception's in the order given,
+    /// then each date's), `BadWeekday` outside 1 to 7, `DoubleWeekday` for one that stands earlier in the list,
+    /// `ManyDates` above 64, `BadDate` above 47,481 (2099-12-31), and `DoubleDate`. The first of these is the
+    /// answer, each looked for in the whole list before the next. A refusal drops both lists.
     pub fn new(
         id: DaypartId,
         window: Window,
         exceptions: Vec<(u8, Window)>,
+        dates: Vec<(u32, Window)>,
     ) -> Result<Daypart, DaypartFault>
         ensures made { MatchResult result
-            (λ d. (daypart_fault window exceptions.items ≡ None)
-            × (d.id ≡ id) × (d.window ≡ window) × IsPermutation exceptions.items d.exceptions)
-            (λ f. daypart_fault window exceptions.items ≡ Some f) }
+            (λ d. (daypart_fault window exceptions.items dates.items ≡ None)
+            × (d.id ≡ id) × (d.window ≡ window)
+            × IsPermutation exceptions.items d.exceptions × IsPermutation dates.items d.dates)
+            (λ f. daypart_fault window exceptions.items dates.items ≡ Some f) }
 
-        // In whatever order the exceptions came: another ascending order of them is the same.
+        // In whatever order the lists came: another ascending order of one is the same.
         ensures one_order { IfOk result
             (λ d. (es : List (ℕ × Window)) → IsPermutation exceptions.items es → Ascends es
             → d.exceptions ≡ es) }
+        ensures one_order_of_dates { IfOk result
+            (λ d. (ds : List (ℕ × Window)) → IsPermutation dates.items ds → Ascends ds
+            → d.dates ≡ ds) }
     {
-        match fault_of(window, exceptions.as_slice()) {
+        match fault_of(window, exceptions.as_slice(), dates.as_slice()) {
             Some(fault) => Err(fault),
             None => {
-                let mut ordered = exceptions;
-                order(&mut ordered);
+                let mut weekdays_first = exceptions;
+                order(&mut weekdays_first);
+                let mut earliest_first = dates;
+                order(&mut earliest_first);
                 Ok(Daypart {
                     id,
                     window,
-                    exceptions: Rows::from_vec(ordered),
+                    exceptions: Rows::from_vec(weekdays_first),
+                    dates: Rows::from_vec(earliest_first),
                 })
             }
         }
@@ -89,7 +106,7 @@ impl Daypart {
         self.id
     }
 
-    /// The window of a date whose weekday has no exception.
+    /// The window of a date that has no exception, for itself or for its weekday.
     pub fn window(&self) -> Window
         ensures value { result ≡ self.now.window }
         ensures valid { IsDaypart self.now }
@@ -104,6 +121,14 @@ impl Daypart {
     {
         self.exceptions.as_slice()
     }
+
+    /// The windows of dates that have their own, by ascending day number.
+    pub fn dates(&self) -> &[(u32, Window)]
+        ensures value { result.now ≡ self.now.dates }
+        ensures valid { IsDaypart self.now }
+    {
+        self.dates.as_slice()
+    }
 }
 
 impl Clone for Daypart {
@@ -113,10 +138,12 @@ impl Clone for Daypart {
 
     fn clone(&self) -> Result<Daypart, AllocError> {
         let exceptions = self.exceptions.clone()?;
+        let dates = self.dates.clone()?;
         Ok(Daypart {
             id: self.id,
             window: self.window,
             exceptions,
+            dates,
         })
     }
 }

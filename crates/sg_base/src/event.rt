@@ -4,6 +4,7 @@ ghost use Rattle.std.specs.Prelude.{◌≡◌, ◌≤◌, Some, None, IfSome, Ma
 
 use crate::event_rules::fault_of;
 use crate::ids::{CampaignId, DaypartId, EventId, LayoutId};
+use crate::limits::{MAX_LAYER, MAX_ORDER, MAX_SHARE};
 use crate::repeat::Repeat;
 use std::marker::Model;
 use thiserror::Error;
@@ -45,13 +46,19 @@ pub enum EventFault {
     HourDaypart,
     #[error("the last day is before the first")]
     UntilBeforeBase,
+    #[error("there are the layers 0 and 1")]
+    BadLayer,
+    #[error("an overlay shows a layout, and has no share of voice")]
+    OverlayForm,
 }
 
 /// An event: a layout or a campaign at a time, with an order and a priority of at most 65,535. A share of
-/// 1 to 3,600 seconds an hour makes it an interrupt, and 0 a normal event.
+/// 1 to 3,600 seconds an hour makes it an interrupt, and 0 a normal event. One of layer 1 is an overlay: its layout
+/// is shown above the picture of the events of layer 0.
 #[derive(Clone, Copy, Debug)]
 pub struct Event {
     id: EventId,
+    layer: u32,
     target: Target,
     when: When,
     repeat: Option<Repeat>,
@@ -61,15 +68,42 @@ pub struct Event {
 }
 
 impl Model for Event {
-    ghost use Rattle.sg_base.specs.Event.{EventRow, IsEvent};
+    ghost use Rattle.sg_base.specs.Event.{EventValue, IsEvent};
 
-    ghost Value = { EventRow };
+    ghost Value = { EventValue };
 
-    ghost view = { λ e. record { id = e.id; target = e.target; when = e.when; repeat = e.repeat; order = e.order; priority = e.priority; share = e.share } };
+    ghost view = { λ e. record {
+      id = e.id;
+      layer = e.layer;
+      target = e.target;
+      when = e.when;
+      repeat = e.repeat;
+      order = e.order;
+      priority = e.priority;
+      share = e.share;
+    } };
 
-    ghost invariant = { λ e. IsEvent (record { id = e.id; target = e.target; when = e.when; repeat = e.repeat; order = e.order; priority = e.priority; share = e.share }) };
+    ghost invariant = { λ e. IsEvent (record {
+      id = e.id;
+      layer = e.layer;
+      target = e.target;
+      when = e.when;
+      repeat = e.repeat;
+      order = e.order;
+      priority = e.priority;
+      share = e.share;
+    }) };
 
-    ghost inverse = { λ e. record { id = e.id; target = e.target; when = e.when; repeat = e.repeat; order = e.order; priority = e.priority; share = e.share } };
+    ghost inverse = { λ e. record {
+      id = e.id;
+      layer = e.layer;
+      target = e.target;
+      when = e.when;
+      repeat = e.repeat;
+      order = e.order;
+      priority = e.priority;
+      share = e.share;
+    } };
 }
 
 impl Event {
@@ -78,11 +112,12 @@ impl Event {
     /// An event. It is refused with `BigNumber` for an order or a priority above 65,535; `BigShare` above
     /// 3,600; `InterruptCampaign` for a campaign with a share above 0; `EmptyTime` for a time that ends where
     /// it begins, or before; `PastRange` for an end above 4,102,444,800 or a date above 47,481 (2099-12-31);
-    /// `AlwaysRepeats`; `HourDaypart` for a daypart that repeats by the hour; and `UntilBeforeBase` for a
-    /// repeat whose last day is before the day that the first occurrence begins on. The first of these is
-    /// the answer.
+    /// `AlwaysRepeats`; `HourDaypart` for a daypart that repeats by the hour; `UntilBeforeBase` for a
+    /// repeat whose last day is before the day that the first occurrence begins on; `BadLayer` above 1; and
+    /// `OverlayForm` for layer 1 with a campaign or a share above 0. The first of these is the answer.
     pub fn new(
         id: EventId,
+        layer: u32,
         target: Target,
         when: When,
         repeat: Option<Repeat>,
@@ -91,14 +126,24 @@ impl Event {
         share: u32,
     ) -> Result<Event, EventFault>
         ensures { MatchResult result
-            (λ e. (event_fault target when repeat order priority share ≡ None)
-            × (e ≡ record { id = id; target = target; when = when; repeat = repeat; order = order; priority = priority; share = share }))
-            (λ f. event_fault target when repeat order priority share ≡ Some f) }
+            (λ e. (event_fault layer target when repeat order priority share ≡ None)
+            × (e ≡ record {
+              id = id;
+              layer = layer;
+              target = target;
+              when = when;
+              repeat = repeat;
+              order = order;
+              priority = priority;
+              share = share;
+            }))
+            (λ f. event_fault layer target when repeat order priority share ≡ Some f) }
     {
-        match fault_of(target, when, &repeat, order, priority, share) {
+        match fault_of(layer, target, when, &repeat, order, priority, share) {
             Some(fault) => Err(fault),
             None => Ok(Event {
                 id,
+                layer,
                 target,
                 when,
                 repeat,
@@ -114,6 +159,15 @@ impl Event {
         ensures { result ≡ self.now.id }
     {
         self.id
+    }
+
+    /// 0 for the picture, 1 for an overlay above it.
+    pub fn layer(&self) -> u32
+        ensures value { result ≡ self.now.layer }
+        ensures few { result ≤ MAX_LAYER }
+        ensures valid { IsEvent self.now }
+    {
+        self.layer
     }
 
     /// What it shows.
@@ -143,7 +197,7 @@ impl Event {
     /// Its place among events of its priority.
     pub fn order(&self) -> u32
         ensures value { result ≡ self.now.order }
-        ensures few { result ≤ 65535 }
+        ensures few { result ≤ MAX_ORDER }
         ensures valid { IsEvent self.now }
     {
         self.order
@@ -152,7 +206,7 @@ impl Event {
     /// Of the events that are active together those of the greatest priority are shown.
     pub fn priority(&self) -> u32
         ensures value { result ≡ self.now.priority }
-        ensures few { result ≤ 65535 }
+        ensures few { result ≤ MAX_ORDER }
         ensures valid { IsEvent self.now }
     {
         self.priority
@@ -161,7 +215,7 @@ impl Event {
     /// Seconds of each hour that an interrupt is to have, and 0 for a normal event.
     pub fn share(&self) -> u32
         ensures value { result ≡ self.now.share }
-        ensures few { result ≤ 3600 }
+        ensures few { result ≤ MAX_SHARE }
         ensures valid { IsEvent self.now }
     {
         self.share

@@ -2,24 +2,16 @@
 
 ghost use Rattle.std.specs.Prelude.{◌≡◌, IfNone, IfSome};
 ghost use Rattle.sg_base.specs.Repeat.{IsRepeat};
-ghost use Rattle.sg_base.specs.Event.{event_fault, numbers_fault as numbers_fault_of, time_fault as time_fault_of, repeat_fault as repeat_fault_of, until_fault as until_fault_of};
+ghost use Rattle.sg_base.specs.Event.{event_fault, numbers_fault as numbers_fault_of, time_fault as time_fault_of, repeat_fault as repeat_fault_of, until_fault as until_fault_of, layer_fault as layer_fault_of};
 
 use crate::event::{EventFault, Target, When};
+use crate::limits::{DAY, LAST_DAY, MAX_LAYER, MAX_ORDER, MAX_SHARE, TIME_END};
 use crate::repeat::{Repeat, Unit};
-
-const BIGGEST_NUMBER: u32 = 65_535;
-
-const BIGGEST_SHARE: u32 = 3600;
-
-const LAST_END: u32 = 4_102_444_800;
-
-const LAST_DAY: u32 = 47_481;
-
-const DAY: u32 = 86_400;
 
 /// The first fault of an event's values. Where there is none the repeat is known to be valid, as each repeat
 /// is.
 pub(crate) fn fault_of(
+    layer: u32,
     target: Target,
     when: When,
     repeat: &Option<Repeat>,
@@ -27,7 +19,7 @@ pub(crate) fn fault_of(
     priority: u32,
     share: u32,
 ) -> Option<EventFault>
-    ensures fault { result ≡ event_fault target when repeat.now order priority share }
+    ensures fault { result ≡ event_fault layer target when repeat.now order priority share }
     ensures valid { IfNone result (IfSome repeat.now IsRepeat) }
 {
     if let Some(fault) = numbers_fault(target, order, priority, share) {
@@ -36,16 +28,19 @@ pub(crate) fn fault_of(
     if let Some(fault) = time_fault(when) {
         return Some(fault);
     }
-    repeat_fault(when, repeat)
+    match repeat_fault(when, repeat) {
+        Some(fault) => Some(fault),
+        None => layer_fault(layer, target, share),
+    }
 }
 
 fn numbers_fault(target: Target, order: u32, priority: u32, share: u32) -> Option<EventFault>
     ensures { result ≡ numbers_fault_of target order priority share }
 {
-    if order > BIGGEST_NUMBER || priority > BIGGEST_NUMBER {
+    if order > MAX_ORDER || priority > MAX_ORDER {
         return Some(EventFault::BigNumber);
     }
-    if share > BIGGEST_SHARE {
+    if share > MAX_SHARE {
         return Some(EventFault::BigShare);
     }
     match target {
@@ -62,7 +57,7 @@ fn time_fault(when: When) -> Option<EventFault>
         When::Custom { from, to } => {
             if to <= from {
                 Some(EventFault::EmptyTime)
-            } else if to > LAST_END {
+            } else if to > TIME_END {
                 Some(EventFault::PastRange)
             } else {
                 None
@@ -99,5 +94,17 @@ fn until_fault(base: u32, until: Option<u32>) -> Option<EventFault>
     match until {
         Some(day) if day < base => Some(EventFault::UntilBeforeBase),
         _ => None,
+    }
+}
+
+fn layer_fault(layer: u32, target: Target, share: u32) -> Option<EventFault>
+    ensures { result ≡ layer_fault_of layer target share }
+{
+    if layer > MAX_LAYER {
+        return Some(EventFault::BadLayer);
+    }
+    match target {
+        Target::Layout(_) if share == 0 => None,
+        _ => (layer > 0).then_some(EventFault::OverlayForm),
     }
 }

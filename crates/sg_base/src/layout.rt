@@ -5,6 +5,7 @@ ghost use Rattle.std.specs.List.{AllByRecursion, list_any};
 
 use crate::ids::{LayoutId, MediaId};
 use crate::layout_rules::{fault_of, longest_of, shown_at};
+use crate::limits::HOUR;
 use crate::list::Rows;
 use std::alloc::AllocError;
 use std::marker::Model;
@@ -100,7 +101,7 @@ impl Layout {
     pub fn duration(&self) -> u32
         ensures value { result ≡ longest self.now.regions }
         ensures some { 0 < result }
-        ensures few { result ≤ 3600 }
+        ensures few { result ≤ HOUR }
     {
         longest_of(self.regions.as_slice())
     }
@@ -109,8 +110,10 @@ impl Layout {
     /// shorter begins again.
     pub fn item_at(&self, region: usize, offset: u32) -> MediaId
         requires { region < length self.now.regions }
-        ensures value { (r : Region) → slice_get self.now.regions region ≡ Some r → result ≡ medium_at r offset }
-        ensures covers { (r : Region) → slice_get self.now.regions region ≡ Some r → Covers r.items (offset % seconds_of r.items) result }
+        ensures value { (r : Region) → slice_get self.now.regions region ≡ Some r
+            → result ≡ medium_at r offset }
+        ensures covers { (r : Region) → slice_get self.now.regions region ≡ Some r
+            → Covers r.items (offset % seconds_of r.items) result }
     {
         shown_at(&self.regions.as_slice()[region], offset)
     }

@@ -7,12 +7,7 @@ ghost use Rattle.sg_base.specs.Layout.{layout_fault, double_fault, region_fault,
 
 use crate::ids::MediaId;
 use crate::layout::{Item, LayoutFault, Region};
-
-const MOST_REGIONS: usize = 16;
-
-const MOST_ITEMS: usize = 64;
-
-const HOUR: u64 = 3600;
+use crate::limits::{HOUR, MAX_ITEMS, MAX_REGIONS};
 
 /// The first fault of a layout's regions.
 pub(crate) fn fault_of(regions: &[Region]) -> Option<LayoutFault>
@@ -21,7 +16,7 @@ pub(crate) fn fault_of(regions: &[Region]) -> Option<LayoutFault>
     if regions.is_empty() {
         return Some(LayoutFault::NoRegion);
     }
-    if regions.len() > MOST_REGIONS {
+    if regions.len() > MAX_REGIONS {
         return Some(LayoutFault::TooMany(regions.len() as u64));
     }
     match doubled(regions) {
@@ -67,7 +62,7 @@ fn own_fault(region: &Region) -> Option<LayoutFault>
     if items.is_empty() {
         return Some(LayoutFault::EmptyRegion(region.id));
     }
-    if items.len() > MOST_ITEMS {
+    if items.len() > MAX_ITEMS {
         return Some(LayoutFault::TooMany(items.len() as u64));
     }
     match without_second(region.id, items) {
@@ -77,7 +72,7 @@ fn own_fault(region: &Region) -> Option<LayoutFault>
 }
 
 fn without_second(region: u32, items: &[Item]) -> Option<LayoutFault>
-    requires { length items.now ≤ 64 }
+    requires { length items.now ≤ MAX_ITEMS }
     ensures { result ≡ zero_fault region 0 items.now }
 {
     let mut index = 0;
@@ -91,11 +86,11 @@ fn without_second(region: u32, items: &[Item]) -> Option<LayoutFault>
 }
 
 fn too_long(items: &[Item]) -> Option<LayoutFault>
-    requires { length items.now ≤ 64 }
+    requires { length items.now ≤ MAX_ITEMS }
     ensures { result ≡ long_fault items.now }
 {
     let seconds = seconds(items);
-    if seconds > HOUR {
+    if seconds > HOUR as u64 {
         Some(LayoutFault::TooLong(seconds))
     } else {
         None
@@ -104,7 +99,7 @@ fn too_long(items: &[Item]) -> Option<LayoutFault>
 
 /// The seconds of some items together.
 fn seconds(items: &[Item]) -> u64
-    requires { length items.now ≤ 64 }
+    requires { length items.now ≤ MAX_ITEMS }
     ensures { result ≡ seconds_of items.now }
 {
     let mut sum = 0;
@@ -120,7 +115,7 @@ pub(crate) fn longest_of(regions: &[Region]) -> u32
     requires { layout_fault regions.now ≡ None }
     ensures value { result ≡ longest regions.now }
     ensures some { 0 < result }
-    ensures few { result ≤ 3600 }
+    ensures few { result ≤ HOUR }
 {
     let mut most = 0;
     for region in regions {

@@ -2,6 +2,7 @@
 
 ghost use Rattle.std.specs.Prelude.{◌≡◌, ◌<◌, ◌≤◌, Some, None, MatchResult};
 
+use crate::limits::{LAST_DAY, MAX_STEP};
 use std::marker::Model;
 use thiserror::Error;
 
@@ -11,7 +12,10 @@ pub enum Unit {
     Hour,
     Day,
     Week,
+    /// The same day of the month.
     Month,
+    /// The same weekday, first to fifth of its month.
+    MonthWeekday,
     Year,
 }
 
@@ -67,7 +71,7 @@ impl Repeat {
         if every == 0 {
             return Err(RepeatFault::ZeroStep);
         }
-        if every > 1000 {
+        if every > MAX_STEP {
             return Err(RepeatFault::BigStep(every));
         }
         if let Some(fault) = days_fault(unit, days) {
@@ -96,7 +100,7 @@ impl Repeat {
     pub fn every(&self) -> u32
         ensures value { result ≡ self.now.every }
         ensures some { 0 < result }
-        ensures few { result ≤ 1000 }
+        ensures few { result ≤ MAX_STEP }
         ensures valid { IsRepeat self.now }
     {
         self.every
@@ -134,7 +138,7 @@ fn days_fault(unit: Unit, days: u8) -> Option<RepeatFault>
                 None
             }
         }
-        Unit::Hour | Unit::Day | Unit::Month | Unit::Year => {
+        Unit::Hour | Unit::Day | Unit::Month | Unit::MonthWeekday | Unit::Year => {
             if days == 0 {
                 None
             } else {
@@ -148,7 +152,7 @@ fn until_fault(until: Option<u32>) -> Option<RepeatFault>
     ensures { result ≡ until_fault_of until }
 {
     match until {
-        Some(day) if day > 47_481 => Some(RepeatFault::BadDay),
+        Some(day) if day > LAST_DAY => Some(RepeatFault::BadDay),
         _ => None,
     }
 }

@@ -2,6 +2,7 @@
 
 ghost use Rattle.std.specs.Prelude.{◌≡◌, ◌≤◌, SomeIff};
 
+use crate::limits::LAST_MOMENT;
 use std::marker::Model;
 
 /// A Unix second, at most 4,102,444,799 (the last of the year 2099).
@@ -10,12 +11,13 @@ pub struct Moment(u32);
 
 impl Model for Moment {
     ghost use Rattle.std.specs.Prelude.{ℕ, ◌≤◌};
+    ghost use Rattle.sg_base.specs.declared.limits.TheConstants.{LAST_MOMENT};
 
     ghost Value = { ℕ };
 
     ghost view = { λ m. m.0 };
 
-    ghost invariant = { λ m. m.0 ≤ 4102444799 };
+    ghost invariant = { λ m. m.0 ≤ LAST_MOMENT };
 
     ghost inverse = { λ n. record { 0 = n } };
 }
@@ -23,9 +25,9 @@ impl Model for Moment {
 impl Moment {
     /// The moment at a Unix second, where it is not after 2099.
     pub fn new(seconds: u32) -> Option<Moment>
-        ensures { SomeIff result (seconds ≤ 4102444799) seconds }
+        ensures { SomeIff result (seconds ≤ LAST_MOMENT) seconds }
     {
-        if seconds <= 4_102_444_799 {
+        if seconds <= LAST_MOMENT {
             Some(Moment(seconds))
         } else {
             None
@@ -35,7 +37,7 @@ impl Moment {
     /// The Unix second.
     pub fn seconds(self) -> u32
         ensures value { result ≡ self }
-        ensures bound { result ≤ 4102444799 }
+        ensures bound { result ≤ LAST_MOMENT }
     {
         self.0
     }
