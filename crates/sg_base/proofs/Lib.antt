@@ -2,3 +2,5 @@ pub mod FaultLemmas
 pub mod LayoutLemmas
 pub mod DoubleLemmas
 pub mod DaypartLemmas
+pub mod RisingLemmas
+pub mod IndexLemmas

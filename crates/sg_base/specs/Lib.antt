@@ -8,3 +8,8 @@ pub mod Daypart
 pub mod Repeat
 pub mod Event
 pub mod Rows
+pub mod Keys
+pub mod Ranks
+pub mod Rising
+pub mod Tables
+pub mod Index
