@@ -1,6 +1,6 @@
 -- What the versions in memory are seen as.
 use Rattle.std.specs.Prelude.{ℕ, List, [], Bool, Contains, if◌then◌else◌}
-use Rattle.sg_outside.specs.Causes.{next_count}
+use Rattle.sg_base.specs.Causes.{next_count}
 
 -- the calls of an object in memory: how many were made, the numbers of those that are to fail, and the faults so far
 pub record CallCount : Type 0 where

@@ -4,10 +4,10 @@ use Rattle.std.specs.Prelude.{◌≡◌, ℕ, ◌<◌, ◌≤◌, List, ◌++◌
 use Rattle.std.specs.declared.option.Option.{Option}
 use Rattle.std.specs.Io.KnownBytes.{Appends, Consumes, IsAtEnd, Keeps}
 
--- one end of an object that is both a source and a sink: the bytes at that end, and its count of faults
-pub record Side : Type 0 where
-  pub bytes : Option (List ℕ)
-  pub faults : ℕ
+-- the other end of the object: its bytes and its count of faults are as they were
+pub record IsApart (old new : Option (List ℕ)) (before now : ℕ) : Type 0 where
+  pub bytes : new ≡ old
+  pub faults : now ≡ before
 
 -- A take that answers n gives the next n bytes, at the front of the buffer, and n = 0 for a buffer with room is the end.
 -- One that fails takes nothing.

@@ -2,8 +2,8 @@
 ghost use Rattle.std.specs.Prelude.{◌≡◌, ℕ, List, OnOk, OnErr};
 ghost use Rattle.std.specs.declared.option.Option.{Option};
 ghost use Rattle.std.specs.Io.KnownBytes.{Appends};
-ghost use Rattle.sg_outside.specs.Causes.{HasCause};
-ghost use Rattle.sg_outside.specs.Streams.{AppendsPart, Puts, Side, Takes};
+ghost use Rattle.sg_base.specs.Causes.{HasCause};
+ghost use Rattle.sg_outside.specs.Streams.{AppendsPart, IsApart, Puts, Takes};
 
 use thiserror::Error;
 
@@ -17,53 +17,45 @@ pub struct SourceFailed;
 #[error("the sink failed")]
 pub struct SinkFailed;
 
-/// Gives bytes, until its end.
-pub trait Source {
+/// An object that gives bytes, or takes bytes, or does both, as a connection does. Contracts see it by these members.
+pub trait Ends {
     // The bytes that it has still to give, where it tells them.
     ghost left: { Self → Option (List ℕ) };
 
-    // How often it has failed; the count stays at the last value of a u64.
-    ghost faults: { Self → ℕ };
+    // How often a take has failed; the count stays at the last value of a u64.
+    ghost take_faults: { Self → ℕ };
 
-    // What a take leaves as it was: the other end, where the object is a sink too.
-    ghost aside: { Self → Side };
-
-    /// Puts the next bytes at the front of the buffer and says how many they are: 0 for a buffer that has room is
-    /// the end. A take that fails takes nothing, and has been counted as a fault.
-    fn take(&mut self, into: &mut [u8]) -> Result<usize, SourceFailed>
-        ensures bytes { Takes (left self.old) (left self.new) result into.new }
-        ensures cause { HasCause (faults self.old) (faults self.new) result }
-        ensures apart { aside self.new ≡ aside self.old };
-}
-
-/// Receives bytes, one piece after another.
-pub trait Sink {
     // The bytes that it has got, where it tells them.
     ghost written: { Self → Option (List ℕ) };
 
-    // How often it has failed; the count stays at the last value of a u64.
-    ghost faults: { Self → ℕ };
+    // How often a put has failed; the count stays at the last value of a u64.
+    ghost put_faults: { Self → ℕ };
+}
 
-    // What a put leaves as it was: the other end, where the object is a source too.
-    ghost aside: { Self → Side };
+/// Gives bytes, until its end.
+pub trait Source: Ends {
+    /// Puts the next bytes at the front of the buffer and says how many they are: 0 for a buffer that has room is
+    /// the end. A take that fails takes nothing, and has been counted as a fault.
+    fn take(&mut self, into: &mut [u8]) -> Result<usize, SourceFailed>
+        ensures bytes { Takes (Self.left self.old) (Self.left self.new) result into.new }
+        ensures cause { HasCause (Self.take_faults self.old) (Self.take_faults self.new) result }
 
+        // If the object is a sink too, that end is as it was.
+        ensures apart { IsApart (Self.written self.old) (Self.written self.new)
+            (Self.put_faults self.old) (Self.put_faults self.new) };
+}
+
+/// Receives bytes, one piece after another.
+pub trait Sink: Ends {
     /// Appends the front of the bytes and says how many it took: one at least, where there is one. A put that fails
     /// appends nothing, and has been counted as a fault.
     fn put(&mut self, bytes: &[u8]) -> Result<usize, SinkFailed>
-        ensures bytes { Puts (written self.old) (written self.new) result bytes.now }
-        ensures cause { HasCause (faults self.old) (faults self.new) result }
-        ensures apart { aside self.new ≡ aside self.old };
-}
+        ensures bytes { Puts (Self.written self.old) (Self.written self.new) result bytes.now }
+        ensures cause { HasCause (Self.put_faults self.old) (Self.put_faults self.new) result }
 
-/// An object that is both ends, as a connection is: each call at one end leaves the bytes and the count of the other.
-pub trait Duplex: Source + Sink {
-    // What a take leaves as it was is what was written, and the sink's count.
-    ghost take_leaves: { (both : Self) → Self.Source.aside both
-        ≡ record { bytes = Self.Sink.written both; faults = Self.Sink.faults both } };
-
-    // What a put leaves as it was is what is left, and the source's count.
-    ghost put_leaves: { (both : Self) → Self.Sink.aside both
-        ≡ record { bytes = Self.Source.left both; faults = Self.Source.faults both } };
+        // If the object is a source too, that end is as it was.
+        ensures apart { IsApart (Self.left self.old) (Self.left self.new)
+            (Self.take_faults self.old) (Self.take_faults self.new) };
 }
 
 /// Puts all the bytes, in as many calls as the sink wants.
@@ -72,8 +64,9 @@ pub trait Duplex: Source + Sink {
 pub fn put_all<O: Sink>(out: &mut O, bytes: &[u8]) -> Result<(), SinkFailed>
     ensures ok { OnOk result (Appends (O.written out.old) (O.written out.new) bytes.now) }
     ensures err { OnErr result (AppendsPart (O.written out.old) (O.written out.new) bytes.now) }
-    ensures cause { HasCause (O.faults out.old) (O.faults out.new) result }
-    ensures apart { O.aside out.new ≡ O.aside out.old }
+    ensures cause { HasCause (O.put_faults out.old) (O.put_faults out.new) result }
+    ensures apart { IsApart (O.left out.old) (O.left out.new)
+        (O.take_faults out.old) (O.take_faults out.new) }
 {
     let mut done = 0;
     // Each put that succeeds takes one byte at least.

@@ -13,6 +13,6 @@ mod standard;
 #[cfg(test)]
 mod tests;
 
-pub use ends::{Duplex, Sink, SinkFailed, Source, SourceFailed, put_all};
+pub use ends::{Ends, Sink, SinkFailed, Source, SourceFailed, put_all};
 pub use memory::{MemSink, MemSource};
 pub use standard::{StdSink, StdSource};

@@ -1,11 +1,11 @@
 // The ends in memory, for runs that are told what comes and what fails.
 ghost use Rattle.std.specs.Prelude.{◌≡◌, ◌<◌, ◌≤◌, ◌↔◌, [], Some, None, min, length, is_err, IsErr, IsTrue, IfOk};
-ghost use Rattle.sg_outside.specs.Causes.{HasCause};
+ghost use Rattle.sg_base.specs.Causes.{HasCause};
 ghost use Rattle.sg_outside.specs.Memory.{NextFails, after_call, no_calls};
 ghost use Rattle.sg_outside.specs.Streams.{Puts, Takes};
 
 use crate::calls::Calls;
-use crate::ends::{Sink, SinkFailed, Source, SourceFailed};
+use crate::ends::{Ends, Sink, SinkFailed, Source, SourceFailed};
 use std::alloc::Global;
 use std::marker::Model;
 
@@ -33,8 +33,8 @@ impl Model for MemSource {
 impl MemSource {
     /// A source of these bytes, with no limit, that never fails.
     pub fn new(alloc: Global, bytes: Vec<u8>) -> MemSource
-        ensures told { ⟦<MemSource as Source>⟧.left result ≡ Some bytes.items }
-        ensures faults { ⟦<MemSource as Source>⟧.faults result ≡ 0 }
+        ensures told { ⟦<MemSource as Ends>⟧.left result ≡ Some bytes.items }
+        ensures faults { ⟦<MemSource as Ends>⟧.take_faults result ≡ 0 }
         ensures start { result ≡ record { left = bytes.items; limit = usize.MAX; calls = no_calls } }
     {
         MemSource {
@@ -70,13 +70,17 @@ impl MemSource {
     }
 }
 
-impl Source for MemSource {
+impl Ends for MemSource {
     ghost left = { λ s. Some s.left };
 
-    ghost faults = { λ s. s.calls.faults };
+    ghost take_faults = { λ s. s.calls.faults };
 
-    ghost aside = { λ _. record { bytes = None; faults = 0 } };
+    ghost written = { λ _. None };
 
+    ghost put_faults = { λ _. 0 };
+}
+
+impl Source for MemSource {
     fn take(&mut self, into: &mut [u8]) -> Result<usize, SourceFailed>
         ensures bytes { Takes (Some self.old.left) (Some self.new.left) result into.new }
         ensures cause { HasCause self.old.calls.faults self.new.calls.faults result }
@@ -123,8 +127,8 @@ impl Model for MemSink {
 impl MemSink {
     /// A sink with no byte yet and with no limit, that fails only where memory runs out.
     pub fn new(alloc: Global) -> MemSink
-        ensures told { ⟦<MemSink as Sink>⟧.written result ≡ Some [] }
-        ensures faults { ⟦<MemSink as Sink>⟧.faults result ≡ 0 }
+        ensures told { ⟦<MemSink as Ends>⟧.written result ≡ Some [] }
+        ensures faults { ⟦<MemSink as Ends>⟧.put_faults result ≡ 0 }
         ensures start { result ≡ record { written = []; limit = usize.MAX; calls = no_calls } }
     {
         MemSink {
@@ -166,13 +170,17 @@ impl MemSink {
     }
 }
 
-impl Sink for MemSink {
+impl Ends for MemSink {
+    ghost left = { λ _. None };
+
+    ghost take_faults = { λ _. 0 };
+
     ghost written = { λ s. Some s.written };
 
-    ghost faults = { λ s. s.calls.faults };
+    ghost put_faults = { λ s. s.calls.faults };
+}
 
-    ghost aside = { λ _. record { bytes = None; faults = 0 } };
-
+impl Sink for MemSink {
     fn put(&mut self, bytes: &[u8]) -> Result<usize, SinkFailed>
         ensures bytes { Puts (Some self.old.written) (Some self.new.written) result bytes.now }
         ensures cause { HasCause self.old.calls.faults self.new.calls.faults result }

@@ -1,5 +1,5 @@
 // What the clauses don't show: that calls succeed with ample memory, and the values in worked tables.
-ghost use Rattle.std.specs.Prelude.{◌≡◌, Some, refl};
+ghost use Rattle.std.specs.Prelude.{◌≡◌, Some};
 
 use super::*;
 use std::alloc::Global;
@@ -185,48 +185,40 @@ struct Line {
     outgoing: MemSink,
 }
 
-impl Source for Line {
+impl Ends for Line {
     ghost left = { λ line. Some line.incoming.left };
 
-    ghost faults = { λ line. line.incoming.calls.faults };
+    ghost take_faults = { λ line. line.incoming.calls.faults };
 
-    ghost aside = { λ line. record { bytes = Some line.outgoing.written; faults = line.outgoing.calls.faults } };
+    ghost written = { λ line. Some line.outgoing.written };
 
+    ghost put_faults = { λ line. line.outgoing.calls.faults };
+}
+
+impl Source for Line {
     fn take(&mut self, into: &mut [u8]) -> Result<usize, SourceFailed> {
         self.incoming.take(into)
     }
 }
 
 impl Sink for Line {
-    ghost written = { λ line. Some line.outgoing.written };
-
-    ghost faults = { λ line. line.outgoing.calls.faults };
-
-    ghost aside = { λ line. record { bytes = Some line.incoming.left; faults = line.incoming.calls.faults } };
-
     fn put(&mut self, bytes: &[u8]) -> Result<usize, SinkFailed> {
         self.outgoing.put(bytes)
     }
 }
 
-impl Duplex for Line {
-    ghost take_leaves = { λ _. refl };
-
-    ghost put_leaves = { λ _. refl };
-}
-
 /// Takes from one end, and leaves the other as it was.
-fn taken<C: Duplex>(both: &mut C, into: &mut [u8]) -> Result<usize, SourceFailed>
-    ensures written { C.Sink.written both.new ≡ C.Sink.written both.old }
-    ensures faults { C.Sink.faults both.new ≡ C.Sink.faults both.old }
+fn taken<C: Source + Sink>(both: &mut C, into: &mut [u8]) -> Result<usize, SourceFailed>
+    ensures written { C.written both.new ≡ C.written both.old }
+    ensures faults { C.put_faults both.new ≡ C.put_faults both.old }
 {
     both.take(into)
 }
 
 /// Puts at one end, and leaves the other as it was.
-fn answered<C: Duplex>(both: &mut C, bytes: &[u8]) -> Result<(), SinkFailed>
-    ensures left { C.Source.left both.new ≡ C.Source.left both.old }
-    ensures faults { C.Source.faults both.new ≡ C.Source.faults both.old }
+fn answered<C: Source + Sink>(both: &mut C, bytes: &[u8]) -> Result<(), SinkFailed>
+    ensures left { C.left both.new ≡ C.left both.old }
+    ensures faults { C.take_faults both.new ≡ C.take_faults both.old }
 {
     put_all(both, bytes)
 }

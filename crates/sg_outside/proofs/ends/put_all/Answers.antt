@@ -7,7 +7,10 @@ loop-done-preserved g c = record {
   within = put_within _ _ _ c.loop-done.invariant.within c.in-Ok.ensures.bytes.0;
   put = put_more _ _ _ _ _ _ c.loop-done.invariant.put c.in-Ok.ensures.bytes.2;
   faults = c.in-Ok.ensures.cause.kept ∙ c.loop-done.invariant.faults;
-  apart = c.in-Ok.ensures.apart ∙ c.loop-done.invariant.apart;
+  apart = record {
+    bytes = c.in-Ok.ensures.apart.bytes ∙ c.loop-done.invariant.apart.bytes;
+    faults = c.in-Ok.ensures.apart.faults ∙ c.loop-done.invariant.apart.faults;
+  };
 }
 
 pub returns-in-Err-clause-err : goal.returns-in-Err-clause-err
