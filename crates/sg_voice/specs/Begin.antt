@@ -3,10 +3,11 @@ use Rattle.std.specs.Prelude.{◌≡◌, ℕ, zero, suc, ◌+◌, ◌-◌, ◌<�
 use Rattle.sg_voice.specs.declared.play.Play.{Play}
 use Rattle.sg_voice.specs.declared.play.Slot.{Slot}
 use Rattle.sg_voice.specs.Hour.{total, cyclic, turns_of, normal_count, before}
+use Rattle.sg_base.specs.declared.limits.TheConstants.{HOUR}
 
 -- the slot of a play that begins at a second: the hour's end cuts it
 abbrev pub slot_from : Play → ℕ → Slot
-slot_from p at = record { event = p.event; layout = p.layout; place = at; seconds = min p.seconds (3600 - at) }
+slot_from p at = record { event = p.event; layout = p.layout; place = at; seconds = min p.seconds (HOUR - at) }
 
 -- normal play j of n begins after the j normal plays before it and after (j + 1) k / n of the k interrupt plays
 abbrev pub begin_normal : ℕ → List Play → List Play → ℕ → ℕ
@@ -29,7 +30,7 @@ begin_alone bs x = total (take x bs)
 pub record IsNormalSlot (n : ℕ) (ns bs : List Play) (s : Slot) : Type 0 where
   pub j : ℕ
   pub one : j < n
-  pub begins : begin_normal n ns bs j < 3600
+  pub begins : begin_normal n ns bs j < HOUR
   pub is : s ≡ slot_from (cyclic ns j) (begin_normal n ns bs j)
 
 -- the slot of interrupt play x, if that begins in the hour
@@ -38,12 +39,12 @@ pub record IsInterruptSlot (begin : ℕ → ℕ) (bs : List Play) (s : Slot) : T
   pub play : Play
   pub one : x < length bs
   pub at : slice_index_or bs x play ≡ play
-  pub begins : begin x < 3600
+  pub begins : begin x < HOUR
   pub is : s ≡ slot_from play (begin x)
 
 -- the slots of an hour of normal plays ns and interrupt plays bs: those of the interrupt plays alone where they fill the
 -- hour, and else those of both, with as many normal plays as fill the rest
 pub data IsSlot (ns bs : List Play) (s : Slot) : Type 0 where
-  Full : 3600 ≤ total bs → IsInterruptSlot (begin_alone bs) bs s → IsSlot ns bs s
-  Normal : total bs < 3600 → IsNormalSlot (normal_count ns (3600 - total bs)) ns bs s → IsSlot ns bs s
-  Between : total bs < 3600 → IsInterruptSlot (begin_interrupt (normal_count ns (3600 - total bs)) ns bs) bs s → IsSlot ns bs s
+  Full : HOUR ≤ total bs → IsInterruptSlot (begin_alone bs) bs s → IsSlot ns bs s
+  Normal : total bs < HOUR → IsNormalSlot (normal_count ns (HOUR - total bs)) ns bs s → IsSlot ns bs s
+  Between : total bs < HOUR → IsInterruptSlot (begin_interrupt (normal_count ns (HOUR - total bs)) ns bs) bs s → IsSlot ns bs s

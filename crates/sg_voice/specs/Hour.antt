@@ -3,18 +3,19 @@ use Rattle.std.specs.Prelude.{◌≡◌, ◌==◌, ℕ, zero, suc, ◌+◌, ◌-
 use Rattle.sg_voice.specs.declared.play.Play.{Play}
 use Rattle.sg_voice.specs.declared.play.Interrupt.{Interrupt}
 use Rattle.sg_voice.specs.declared.play.Slot.{Slot}
+use Rattle.sg_base.specs.declared.limits.TheConstants.{HOUR, MAX_SHARE}
 
 -- a play lasts from one second to an hour
 pub record IsPlay (p : Play) : Type 0 where
   pub some : 0 < p.seconds
-  pub few : p.seconds ≤ 3600
+  pub few : p.seconds ≤ HOUR
 
 -- so does a play of an interrupt, and its share is from one second of the hour to all of it
 pub record IsInterrupt (i : Interrupt) : Type 0 where
   pub some : 0 < i.seconds
-  pub few : i.seconds ≤ 3600
+  pub few : i.seconds ≤ HOUR
   pub shared : 0 < i.share
-  pub share : i.share ≤ 3600
+  pub share : i.share ≤ MAX_SHARE
 
 -- ---- The plays of the interrupts ----
 
@@ -102,15 +103,15 @@ mixed_plays n ns bs = mixed n ns bs n 0
 
 -- the plays of the hour: the interrupts alone where they fill it (the difference stops at 0), else both
 abbrev pub hour_plays : List Play → List Play → List Play
-hour_plays ns bs = if 3600 - total bs == 0 then bs else mixed_plays (normal_count ns (3600 - total bs)) ns bs
+hour_plays ns bs = if HOUR - total bs == 0 then bs else mixed_plays (normal_count ns (HOUR - total bs)) ns bs
 
 -- ---- The slots ----
 
 -- plays put one after another from a second on, as far as they begin in the hour; its end cuts the last one
 abbrev pub placed : ℕ → List Play → List Slot
 placed at [] = []
-placed at (p ∷ ps) = if nat_lt at 3600
-    then (record { event = p.event; layout = p.layout; place = at; seconds = min p.seconds (3600 - at) }) ∷ placed (at + p.seconds) ps
+placed at (p ∷ ps) = if nat_lt at HOUR
+    then (record { event = p.event; layout = p.layout; place = at; seconds = min p.seconds (HOUR - at) }) ∷ placed (at + p.seconds) ps
     else []
 
 -- the slots of the hour
@@ -119,8 +120,8 @@ slots_of ns is = placed 0 (hour_plays ns (interrupt_plays is))
 
 -- slots that follow each other from a second up to the end of the hour
 abbrev pub Tiles : ℕ → List Slot → Type 0
-Tiles at [] = at ≡ 3600
-Tiles at (s ∷ ss) = (s.place ≡ at) × (0 < s.seconds) × (at + s.seconds ≤ 3600) × Tiles (at + s.seconds) ss
+Tiles at [] = at ≡ HOUR
+Tiles at (s ∷ ss) = (s.place ≡ at) × (0 < s.seconds) × (at + s.seconds ≤ HOUR) × Tiles (at + s.seconds) ss
 
 -- the answer where no slot covers a second, which does not happen in a built loop
 abbrev pub no_slot : Slot
@@ -147,4 +148,4 @@ shown_from e ss (suc m) p = (if (covering p ss).event == e then 1 else 0) + show
 
 -- at how many seconds of the hour the covering slot shows the event
 unfoldable pub seconds_shown : ℕ → List Slot → ℕ
-seconds_shown e ss = shown_from e ss 3600 0
+seconds_shown e ss = shown_from e ss HOUR 0

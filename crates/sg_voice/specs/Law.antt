@@ -6,6 +6,7 @@ use Rattle.sg_voice.specs.declared.play.Interrupt.{Interrupt}
 use Rattle.sg_voice.specs.declared.play.Slot.{Slot}
 use Rattle.sg_voice.specs.Hour.{total, cyclic, count_of, interrupt_plays, normal_count, seconds_where, event_seconds}
 use Rattle.sg_voice.specs.Begin.{slot_from, begin_normal}
+use Rattle.sg_base.specs.declared.limits.TheConstants.{HOUR}
 
 -- no other entry of the two lists has the event of interrupt k
 pub record IsAlone (ns : List Play) (is : List Interrupt) (k : ℕ) (i : Interrupt) : Type 0 where
@@ -24,7 +25,7 @@ normal_seconds n ns bs (suc m) j = (slot_from (cyclic ns j) (begin_normal n ns b
 -- the seconds of the slots of all normal plays
 abbrev pub all_normal_seconds : List Play → List Play → ℕ
 all_normal_seconds ns bs =
-    let n = normal_count ns (3600 - total bs) in
+    let n = normal_count ns (HOUR - total bs) in
     normal_seconds n ns bs n 0
 
 -- the law of an hour that the interrupts don't fill
@@ -35,6 +36,6 @@ pub record HourLaw (ns : List Play) (is : List Interrupt) (ss : List Slot) : Typ
   pub enough : (k : ℕ) (i : Interrupt) → k < length is → slice_index_or is k i ≡ i → i.share ≤ count_of i * i.seconds
   pub no_more : (k : ℕ) (i : Interrupt) → k < length is → slice_index_or is k i ≡ i → count_of i * i.seconds < i.share + i.seconds
   -- the normal plays have the rest
-  pub rest : all_normal_seconds ns (interrupt_plays is) ≡ 3600 - total (interrupt_plays is)
+  pub rest : all_normal_seconds ns (interrupt_plays is) ≡ HOUR - total (interrupt_plays is)
   -- and so have the slots of other events than the interrupts', where no event is both a normal play's and an interrupt's
-  pub apart : AllByRecursion (λ p. has_event is p.event ≡ false) ns → seconds_where (λ e. not (has_event is e)) ss ≡ 3600 - total (interrupt_plays is)
+  pub apart : AllByRecursion (λ p. has_event is p.event ≡ false) ns → seconds_where (λ e. not (has_event is e)) ss ≡ HOUR - total (interrupt_plays is)

@@ -9,11 +9,12 @@ ghost use Rattle.sg_voice.specs.Law.{HourLaw};
 use crate::mix::{fill, lay, mix};
 use crate::play::{Interrupt, Play, Slot};
 use crate::rounds::gather;
+use sg_base::limits::HOUR;
 use std::alloc::{AllocError, Global};
 use std::marker::Model;
 
 // No play is shorter than a second, so no hour has more slots.
-const ROOM: usize = 3600;
+const ROOM: usize = HOUR as usize;
 
 /// The slots of an hour, in order. It is made once with room for any hour, and then built again and again.
 #[derive(Debug, Drop)]
@@ -26,6 +27,7 @@ pub struct Loop {
 
 impl Model for Loop {
     ghost use Rattle.std.specs.Prelude.{List, vec_capacity, ◌≤◌};
+    ghost use Rattle.sg_base.specs.declared.limits.TheConstants.{HOUR};
     ghost use Rattle.sg_voice.specs.declared.play.Slot.{Slot};
 
     ghost Value = { List Slot };
@@ -33,7 +35,7 @@ impl Model for Loop {
     ghost view = { λ l. l.slots.items };
 
     ghost invariant = { λ l.
-        (3600 ≤ vec_capacity l.slots) × (3600 ≤ vec_capacity l.plays) × (3600 ≤ vec_capacity l.alive) };
+        (HOUR ≤ vec_capacity l.slots) × (HOUR ≤ vec_capacity l.plays) × (HOUR ≤ vec_capacity l.alive) };
 }
 
 impl Loop {
@@ -68,11 +70,11 @@ pub fn build_loop(normal: &[Play], interrupts: &[Interrupt], into: &mut Loop)
     // The slots in closed form, where `normal_count` is the least number that fills the room.
     ensures exact { (s : Slot) →
         Contains into.new s ↔ IsSlot normal.now (interrupt_plays interrupts.now) s }
-    ensures least { let room = 3600 - total (interrupt_plays interrupts.now) in
+    ensures least { let room = HOUR - total (interrupt_plays interrupts.now) in
         IsLeast normal.now room (normal_count normal.now room) }
 
     // How many seconds each of them has.
-    ensures law { total (interrupt_plays interrupts.now) < 3600 →
+    ensures law { total (interrupt_plays interrupts.now) < HOUR →
         HourLaw normal.now interrupts.now into.new }
 {
     build(
@@ -95,13 +97,13 @@ fn build(
     requires some { 0 < length normal.now }
     requires normal { AllByRecursion IsPlay normal.now }
     requires interrupts { AllByRecursion IsInterrupt interrupts.now }
-    requires slots { 3600 ≤ vec_capacity slots.old }
-    requires plays { 3600 ≤ vec_capacity plays.old }
-    requires alive { 3600 ≤ vec_capacity alive.old }
+    requires slots { HOUR ≤ vec_capacity slots.old }
+    requires plays { HOUR ≤ vec_capacity plays.old }
+    requires alive { HOUR ≤ vec_capacity alive.old }
     ensures items { slots.new.items ≡ slots_of normal.now interrupts.now }
-    ensures slots { 3600 ≤ vec_capacity slots.new }
-    ensures plays { 3600 ≤ vec_capacity plays.new }
-    ensures alive { 3600 ≤ vec_capacity alive.new }
+    ensures slots { HOUR ≤ vec_capacity slots.new }
+    ensures plays { HOUR ≤ vec_capacity plays.new }
+    ensures alive { HOUR ≤ vec_capacity alive.new }
 {
     slots.clear();
     let room = gather(interrupts, alive, plays);
@@ -116,7 +118,7 @@ fn build(
 /// The slot that covers second `p` of the hour, with `p` in 0..=3599.
 pub fn slot_at(from: &Loop, p: u32) -> Slot
     requires built { Tiles 0 from.now }
-    requires hour { p < 3600 }
+    requires hour { p < HOUR }
     ensures value { result ≡ covering p from.now }
     ensures begun { result.place ≤ p }
     ensures lasts { p < result.place + result.seconds }

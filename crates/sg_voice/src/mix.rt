@@ -4,17 +4,18 @@ ghost use Rattle.std.specs.List.{AllByRecursion};
 ghost use Rattle.sg_voice.specs.declared.play.Play.{Play};
 ghost use Rattle.sg_voice.specs.Hour.{IsPlay, cyclic, normal_count, mixed_plays, placed};
 
-use crate::play::{HOUR, Play, Slot};
+use crate::play::{Play, Slot};
+use sg_base::limits::HOUR;
 
 // Appends the slot of a play that goes to a second, if that is in the hour, and answers where the next play goes.
 fn put(slots: &mut Vec<Slot>, play: Play, at: u32) -> u32
     requires play { IsPlay play }
     requires behind { vec_len slots.old ≤ at }
-    requires capacity { 3600 ≤ vec_capacity slots.old }
+    requires capacity { HOUR ≤ vec_capacity slots.old }
     ensures items { (rest : List Play) →
         slots.new.items ++ placed result rest ≡ slots.old.items ++ placed at (play ∷ rest) }
     ensures behind { vec_len slots.new ≤ result }
-    ensures capacity { 3600 ≤ vec_capacity slots.new }
+    ensures capacity { HOUR ≤ vec_capacity slots.new }
 {
     if at >= HOUR {
         return at;
@@ -35,9 +36,9 @@ fn put(slots: &mut Vec<Slot>, play: Play, at: u32) -> u32
 pub fn lay(plays: &[Play], slots: &mut Vec<Slot>)
     requires each { AllByRecursion IsPlay plays.now }
     requires empty { slots.old.items ≡ [] }
-    requires capacity { 3600 ≤ vec_capacity slots.old }
+    requires capacity { HOUR ≤ vec_capacity slots.old }
     ensures items { slots.new.items ≡ placed 0 plays.now }
-    ensures capacity { 3600 ≤ vec_capacity slots.new }
+    ensures capacity { HOUR ≤ vec_capacity slots.new }
 {
     let mut at = 0;
     for play in plays {
@@ -59,9 +60,9 @@ fn turn(normal: &[Play], j: usize) -> Play
 pub fn fill(normal: &[Play], room: u32) -> usize
     requires some { 0 < length normal.now }
     requires each { AllByRecursion IsPlay normal.now }
-    requires hour { room ≤ 3600 }
+    requires hour { room ≤ HOUR }
     ensures value { result ≡ normal_count normal.now room }
-    ensures few { result ≤ 3600 }
+    ensures few { result ≤ HOUR }
 {
     let mut n = 0;
     let mut left = room;
@@ -78,12 +79,12 @@ pub fn mix(normal: &[Play], plays: &[Play], n: usize, slots: &mut Vec<Slot>)
     requires some { 0 < length normal.now }
     requires normal { AllByRecursion IsPlay normal.now }
     requires plays { AllByRecursion IsPlay plays.now }
-    requires few { length plays.now ≤ 3600 }
-    requires n { n ≤ 3600 }
+    requires few { length plays.now ≤ HOUR }
+    requires n { n ≤ HOUR }
     requires empty { slots.old.items ≡ [] }
-    requires capacity { 3600 ≤ vec_capacity slots.old }
+    requires capacity { HOUR ≤ vec_capacity slots.old }
     ensures items { slots.new.items ≡ placed 0 (mixed_plays n normal.now plays.now) }
-    ensures capacity { 3600 ≤ vec_capacity slots.new }
+    ensures capacity { HOUR ≤ vec_capacity slots.new }
 {
     let mut at = 0;
     let mut next = 0usize;

@@ -1,9 +1,6 @@
 // What an hour is made of: the plays that come in, and the slots that come out. A `seconds` is in 1..=3600
 // everywhere, and event and layout are the numbers of the rows that a play shows.
 
-/// The seconds of an hour.
-pub const HOUR: u32 = 3600;
-
 /// A play of a layout for its whole duration.
 #[derive(Clone, Copy, Debug, PartialEq, Eq)]
 pub struct Play {

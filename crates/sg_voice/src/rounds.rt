@@ -6,7 +6,8 @@ ghost use Rattle.sg_voice.specs.declared.play.Interrupt.{Interrupt};
 ghost use Rattle.sg_voice.specs.Hour.{IsInterrupt, count_of, part_of, round_of, rounds_of, most_of, interrupt_plays, total};
 ghost use Rattle.sg_voice.specs.Within.{within};
 
-use crate::play::{HOUR, Interrupt, Play};
+use crate::play::{Interrupt, Play};
+use sg_base::limits::HOUR;
 
 // How often an interrupt plays.
 fn count(interrupt: Interrupt) -> u32
@@ -32,12 +33,12 @@ fn most(interrupts: &[Interrupt]) -> u32
 fn append(play: Play, room: u32, plays: &mut Vec<Play>) -> u32
     requires room { 0 < room }
     requires some { 0 < play.seconds }
-    requires hour { vec_len plays.old + room ≤ 3600 }
-    requires capacity { 3600 ≤ vec_capacity plays.old }
+    requires hour { vec_len plays.old + room ≤ HOUR }
+    requires capacity { HOUR ≤ vec_capacity plays.old }
     ensures items { plays.new.items ≡ plays.old.items ++ play ∷ [] }
     ensures left { result ≡ room - play.seconds }
-    ensures hour { vec_len plays.new + result ≤ 3600 }
-    ensures capacity { 3600 ≤ vec_capacity plays.new }
+    ensures hour { vec_len plays.new + result ≤ HOUR }
+    ensures capacity { HOUR ≤ vec_capacity plays.new }
 {
     match plays.push(play) {
         Ok(()) => room.saturating_sub(play.seconds),
@@ -48,14 +49,14 @@ fn append(play: Play, room: u32, plays: &mut Vec<Play>) -> u32
 // Appends what an interrupt adds to a round, if there is room, and answers the room that is left.
 fn offer(interrupt: Interrupt, round: u32, room: u32, plays: &mut Vec<Play>) -> u32
     requires interrupt { IsInterrupt interrupt }
-    requires hour { vec_len plays.old + room ≤ 3600 }
-    requires capacity { 3600 ≤ vec_capacity plays.old }
+    requires hour { vec_len plays.old + room ≤ HOUR }
+    requires capacity { HOUR ≤ vec_capacity plays.old }
     ensures items { (rest : List Play) →
         plays.new.items ++ within result rest
         ≡ plays.old.items ++ within room (part_of round interrupt ++ rest) }
     ensures left { result ≡ room - total (part_of round interrupt) }
-    ensures hour { vec_len plays.new + result ≤ 3600 }
-    ensures capacity { 3600 ≤ vec_capacity plays.new }
+    ensures hour { vec_len plays.new + result ≤ HOUR }
+    ensures capacity { HOUR ≤ vec_capacity plays.new }
 {
     if room == 0 {
         return 0;
@@ -74,14 +75,14 @@ fn offer(interrupt: Interrupt, round: u32, room: u32, plays: &mut Vec<Play>) -> 
 // Appends a round, as far as there is room, and answers the room that is left.
 fn one_round(interrupts: &[Interrupt], round: u32, room: u32, plays: &mut Vec<Play>) -> u32
     requires each { AllByRecursion IsInterrupt interrupts.now }
-    requires hour { vec_len plays.old + room ≤ 3600 }
-    requires capacity { 3600 ≤ vec_capacity plays.old }
+    requires hour { vec_len plays.old + room ≤ HOUR }
+    requires capacity { HOUR ≤ vec_capacity plays.old }
     ensures items { (rest : List Play) →
         plays.new.items ++ within result rest
         ≡ plays.old.items ++ within room (round_of round interrupts.now ++ rest) }
     ensures left { result ≡ room - total (round_of round interrupts.now) }
-    ensures hour { vec_len plays.new + result ≤ 3600 }
-    ensures capacity { 3600 ≤ vec_capacity plays.new }
+    ensures hour { vec_len plays.new + result ≤ HOUR }
+    ensures capacity { HOUR ≤ vec_capacity plays.new }
 {
     let mut left = room;
     for interrupt in interrupts {
@@ -109,16 +110,16 @@ fn keep(alive: &mut Vec<Interrupt>, round: u32)
 // looked at once in each of its rounds, since it is dropped after its last one.
 fn later_rounds(alive: &mut Vec<Interrupt>, room: u32, plays: &mut Vec<Play>) -> u32
     requires each { AllByRecursion IsInterrupt alive.old.items }
-    requires hour { vec_len plays.old + room ≤ 3600 }
-    requires plays { 3600 ≤ vec_capacity plays.old }
-    requires alive { 3600 ≤ vec_capacity alive.old }
+    requires hour { vec_len plays.old + room ≤ HOUR }
+    requires plays { HOUR ≤ vec_capacity plays.old }
+    requires alive { HOUR ≤ vec_capacity alive.old }
     ensures items { plays.new.items
         ≡ plays.old.items
         ++ within room (rounds_of (most_of alive.old.items - 1) 1 alive.old.items) }
     ensures left { result ≡ room - total (rounds_of (most_of alive.old.items - 1) 1 alive.old.items) }
-    ensures hour { vec_len plays.new + result ≤ 3600 }
-    ensures plays { 3600 ≤ vec_capacity plays.new }
-    ensures alive { 3600 ≤ vec_capacity alive.new }
+    ensures hour { vec_len plays.new + result ≤ HOUR }
+    ensures plays { HOUR ≤ vec_capacity plays.new }
+    ensures alive { HOUR ≤ vec_capacity alive.new }
 {
     let mut left = room;
     for round in 1..most(alive.as_slice()) {
@@ -135,13 +136,13 @@ fn later_rounds(alive: &mut Vec<Interrupt>, room: u32, plays: &mut Vec<Play>) ->
 // more than an hour of plays is kept, however many there are in all.
 pub fn gather(interrupts: &[Interrupt], alive: &mut Vec<Interrupt>, plays: &mut Vec<Play>) -> u32
     requires each { AllByRecursion IsInterrupt interrupts.now }
-    requires alive { 3600 ≤ vec_capacity alive.old }
-    requires plays { 3600 ≤ vec_capacity plays.old }
-    ensures items { plays.new.items ≡ within 3600 (interrupt_plays interrupts.now) }
-    ensures left { result ≡ 3600 - total (interrupt_plays interrupts.now) }
-    ensures hour { vec_len plays.new + result ≤ 3600 }
-    ensures plays { 3600 ≤ vec_capacity plays.new }
-    ensures alive { 3600 ≤ vec_capacity alive.new }
+    requires alive { HOUR ≤ vec_capacity alive.old }
+    requires plays { HOUR ≤ vec_capacity plays.old }
+    ensures items { plays.new.items ≡ within HOUR (interrupt_plays interrupts.now) }
+    ensures left { result ≡ HOUR - total (interrupt_plays interrupts.now) }
+    ensures hour { vec_len plays.new + result ≤ HOUR }
+    ensures plays { HOUR ≤ vec_capacity plays.new }
+    ensures alive { HOUR ≤ vec_capacity alive.new }
 {
     plays.clear();
     let left = one_round(interrupts, 0, HOUR, plays);
