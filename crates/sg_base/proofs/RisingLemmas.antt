@@ -1,5 +1,5 @@
 -- Lemmas on lists that rise by the rank of each element.
-use Rattle.std.proofs.Common.{◌≡◌, ℕ, suc, zero, ◌+◌, ◌<◌, ◌≤◌, Bool, true, false, cond, not, eqb, ltb, List, [], ◌∷◌, length, get_or, set, take, drop, ⊎_elim, refl, ap, sym, ◌∙◌, subst, inl, inr, ◌⊎◌, arith}
+use Rattle.std.proofs.Common.{◌≡◌, ℕ, suc, zero, ◌+◌, ◌-◌, ◌<◌, ◌≤◌, Bool, true, false, cond, not, eqb, ltb, List, [], ◌∷◌, length, get_or, set, take, drop, ⊎_elim, refl, ap, sym, ◌∙◌, subst, inl, inr, ◌⊎◌, arith, zero-add}
 use Rattle.std.specs.Prelude.{None, Some}
 use Rattle.std.specs.List.{AllByRecursion, insert, remove}
 use Rattle.std.specs.List.Sorted.{IsNonDecreasingBy, IsPartitionPoint}
@@ -91,6 +91,10 @@ rank_missing rank k (y ∷ ys) none (suc j) d h e =
 pub all_above : {A : Type 0} (rank : A → ℕ) (j k : ℕ) (xs : List A) → k ≤ j → AllByRecursion (λ x. j < rank x) xs → AllByRecursion (λ x. k < rank x) xs
 all_above rank j k [] le a = tt
 all_above rank j k (x ∷ xs) le a = (let h = a.0 in omega arith, all_above rank j k xs le a.1)
+
+all_higher : {A : Type 0} (rank : A → ℕ) (j k : ℕ) (xs : List A) → k < j → AllByRecursion (λ x. j ≤ rank x) xs → AllByRecursion (λ x. k < rank x) xs
+all_higher rank j k [] lt a = tt
+all_higher rank j k (x ∷ xs) lt a = (let h = a.0 in omega arith, all_higher rank j k xs lt a.1)
 
 pub found_above : {A : Type 0} (rank : A → ℕ) (k : ℕ) (xs : List A) → AllByRecursion (λ x. k < rank x) xs → found rank k xs ≡ None
 found_above rank k [] a = refl
@@ -253,27 +257,6 @@ without_missing rank k (y ∷ ys) e =
       | false ↦ λ h. ap (λ l. y ∷ l) (without_missing rank k ys h)
     ] e
 
--- the next index, after the element of a rank
-pub first_after_found : {A : Type 0} (rank : A → ℕ) (k : ℕ) (xs : List A) (i : ℕ) → IsRising rank xs → IsFirstFrom rank k xs i → i < length xs → ((d : A) → rank (get_or xs i d) ≡ k) → IsFirstFrom rank (k + 1) xs (i + 1)
-first_after_found rank k xs i s p l at = record {
-  within = omega arith;
-  below = λ j d low h.
-      elim (cases_order j i) [
-        | inl same ↦ let e = at d in rw same (omega arith)
-        | inr (inl less) ↦ let q = p.below j d low less in omega arith
-        | inr (inr more) ↦ absurd (omega arith)
-      ];
-  above = λ j d h len. let up = rising_at rank xs i j d s (omega arith) len in let e = at d in omega arith;
-}
-
--- the same index, where there is no element of a rank
-pub first_after_missing : {A : Type 0} (rank : A → ℕ) (k : ℕ) (xs : List A) (i : ℕ) → IsFirstFrom rank k xs i → found rank k xs ≡ None → IsFirstFrom rank (k + 1) xs i
-first_after_missing rank k xs i p none = record {
-  within = p.within;
-  below = λ j d low h. let q = p.below j d low h in omega arith;
-  above = λ j d h len. let less = less_than k (rank (get_or xs j d)) (p.above j d h len) (rank_missing rank k xs none j d len) in omega arith;
-}
-
 -- ---- parts of a list that rises
 
 pub all_take : {A : Type 0} (P : A → Type 0) (xs : List A) (m : ℕ) → AllByRecursion P xs → AllByRecursion P (take m xs)
@@ -340,7 +323,57 @@ all_from rank k (x ∷ xs) zero p = (
 )
 all_from rank k (x ∷ xs) (suc i) p = all_from rank k xs i (first_tail rank k x xs i p)
 
+pub all_before : {A : Type 0} (rank : A → ℕ) (k : ℕ) (xs : List A) (i m : ℕ) → IsFirstFrom rank k xs i → m ≤ i → AllByRecursion (λ x. rank x < k) (take m xs)
+all_before rank k [] i zero p le = tt
+all_before rank k [] i (suc m) p le = tt
+all_before rank k (x ∷ xs) i zero p le = tt
+all_before rank k (x ∷ xs) zero (suc m) p le = absurd (omega arith)
+all_before rank k (x ∷ xs) (suc i) (suc m) p le = (p.below 0 x (omega arith) (omega arith), all_before rank k xs i m (first_tail rank k x xs i p) (omega arith))
+
+-- the index in what comes after an earlier one
+pub first_in_rest : {A : Type 0} (rank : A → ℕ) (k : ℕ) (xs : List A) (i j : ℕ) → IsFirstFrom rank k xs (i + j) → IsFirstFrom rank k (drop i xs) j
+first_in_rest rank k xs zero j p = rw (← zero-add j) p
+first_in_rest rank k [] (suc i) j p = absurd (let h = p.within in omega (arith, h))
+first_in_rest rank k (x ∷ xs) (suc i) j p =
+    let e : suc i + j ≡ suc (i + j) = omega arith in
+    first_in_rest rank k xs i j (first_tail rank k x xs (i + j) (rw (← e) p))
+
 -- where each rank has P and k hasn't, nothing is found
 pub found_outside : {A : Type 0} (rank : A → ℕ) (P : ℕ → Type 0) (k : ℕ) (xs : List A) → AllByRecursion (λ x. P (rank x)) xs → (P k → ⊥) → found rank k xs ≡ None
 found_outside rank P k [] a out = refl
 found_outside rank P k (x ∷ xs) a out = found_later rank k x xs (λ e. out (subst P e a.0)) ∙ found_outside rank P k xs a.1 out
+
+both : {A : Type 0} (P Q : A → Type 0) (xs : List A) → AllByRecursion P xs → AllByRecursion Q xs → AllByRecursion (λ x. P x × Q x) xs
+both P Q [] a b = tt
+both P Q (x ∷ xs) a b = ((a.0, b.0), both P Q xs a.1 b.1)
+
+-- ---- the elements between two ranks
+
+-- no rank is below one that begins a list
+least : {A : Type 0} (rank : A → ℕ) (start : ℕ) (xs : List A) (i end : ℕ) → IsFirstFrom rank start xs i → IsFirstFrom rank end xs 0 → start ≤ end → i ≤ 0
+least rank start [] i end p q le = let h = p.within in omega (arith, h)
+least rank start (x ∷ xs) zero end p q le = omega arith
+least rank start (x ∷ xs) (suc i) end p q le =
+    let low : rank x < start = p.below 0 x (omega arith) (omega arith) in
+    let high : end ≤ rank x = q.above 0 x (omega arith) (omega arith) in
+    absurd (omega arith)
+
+pub first_in_order : {A : Type 0} (rank : A → ℕ) (start end : ℕ) (xs : List A) (i j : ℕ) → IsFirstFrom rank start xs i → IsFirstFrom rank end xs j → start ≤ end → i ≤ j
+first_in_order rank start end xs i zero p q le = least rank start xs i end p q le
+first_in_order rank start end [] i (suc j) p q le = let h = p.within in omega (arith, h)
+first_in_order rank start end (x ∷ xs) zero (suc j) p q le = omega arith
+first_in_order rank start end (x ∷ xs) (suc i) (suc j) p q le = let h = first_in_order rank start end xs i j (first_tail rank start x xs i p) (first_tail rank end x xs j q) le in omega arith
+
+-- the part of a list between two indices at which ranks begin
+pub within_between : {A : Type 0} (rank : A → ℕ) (start end : ℕ) (xs : List A) (i j : ℕ) → IsFirstFrom rank start xs i → IsFirstFrom rank end xs j → i ≤ j → AllByRecursion (λ x. (start ≤ rank x) × (rank x < end)) (take (j - i) (drop i xs))
+within_between rank start end xs i j p q le =
+    let ends : IsFirstFrom rank end xs (i + (j - i)) = subst (λ n. IsFirstFrom rank end xs n) (omega arith) q in
+    both (λ x. start ≤ rank x) (λ x. rank x < end) (take (j - i) (drop i xs))
+    (all_take (λ x. start ≤ rank x) (drop i xs) (j - i) (all_from rank start xs i p))
+    (all_before rank end (drop i xs) (j - i) (j - i) (first_in_rest rank end xs i (j - i) ends) (omega arith))
+
+pub found-between : {A : Type 0} (rank : A → ℕ) (start end k : ℕ) (xs : List A) (i j : ℕ) → IsFirstFrom rank start xs i → IsFirstFrom rank end xs j → i ≤ j → start ≤ k → k < end → found rank k (take (j - i) (drop i xs)) ≡ found rank k xs
+found-between rank start end k xs i j p q le low high =
+    let ends : IsFirstFrom rank end xs (i + (j - i)) = subst (λ n. IsFirstFrom rank end xs n) (omega arith) q in
+    let rest = all_from rank end (drop i xs) (j - i) (first_in_rest rank end xs i (j - i) ends) in
+    found_in_front rank k (drop i xs) (j - i) (all_higher rank end k (drop (j - i) (drop i xs)) high rest) ∙ found-drop rank start k xs i p low

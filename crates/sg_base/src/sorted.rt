@@ -5,7 +5,7 @@
 //! it can't fail.
 
 ghost use Rattle.std.specs.Prelude.{◌≡◌, ◌≢◌, ℕ, ◌+◌, ◌^◌, ◌<◌, ◌≤◌, nat_lt, IfOk, IfErr, OnOk, None, [], length, slice_index_or};
-ghost use Rattle.std.specs.List.{insert};
+ghost use Rattle.std.specs.List.{AllByRecursion, insert};
 ghost use Rattle.std.specs.Option.{option_copied};
 ghost use Rattle.std.specs.Vec.{vec_capacity, vec_len};
 ghost use Rattle.sg_base.specs.Ranks.{rank_of};
@@ -86,23 +86,20 @@ impl<T: Ranked + Drop> Sorted<T> {
         self.items.as_slice()
     }
 
-    /// The index of the first element that has a rank or one above it: their number if all are below it.
-    pub fn first_from(&self, rank: Rank) -> usize
-        ensures index { IsFirstFrom T.rank (rank_of rank) self.now.items result }
-        ensures rising { IsRising T.rank self.now.items }
+    /// The elements whose ranks are at least `start` and below `end`.
+    pub fn between(&self, start: Rank, end: Rank) -> &[T]
+        requires { rank_of start ≤ rank_of end }
+        ensures within { AllByRecursion (λ x.
+            (rank_of start ≤ T.rank x) × (T.rank x < rank_of end)) result.now }
+        ensures all { (k : ℕ) → rank_of start ≤ k → k < rank_of end →
+            found T.rank k result.now ≡ found T.rank k self.now.items }
+        ensures rising { IsRising T.rank result.now }
     {
-        self.items
-            .partition_point(|element| element.rank().is_below(rank))
-    }
-
-    /// The index of the first element that has a rank above this one.
-    pub fn first_after(&self, rank: Rank) -> usize
-        ensures { IsFirstFrom T.rank (rank_of rank + 1) self.now.items result }
-    {
-        match self.search(rank) {
-            Ok(index) => index + 1,
-            Err(index) => index,
-        }
+        let from = self.first_from(start);
+        let to = self.first_from(end);
+        let (_, rest) = self.items.as_slice().split_at(from);
+        let (middle, _) = rest.split_at(to - from);
+        middle
     }
 
     /// The element of a rank.
@@ -163,6 +160,15 @@ impl<T: Ranked + Drop> Sorted<T> {
         if let Ok(index) = self.search(rank) {
             self.items.remove(index);
         }
+    }
+
+    // The index of the first element whose rank is at least this one; the length if there is none.
+    fn first_from(&self, rank: Rank) -> usize
+        ensures index { IsFirstFrom T.rank (rank_of rank) self.now.items result }
+        ensures rising { IsRising T.rank self.now.items }
+    {
+        self.items
+            .partition_point(|element| element.rank().is_below(rank))
     }
 
     // The index of the element of a rank, or else the one at which it would stand.

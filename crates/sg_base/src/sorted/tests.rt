@@ -84,21 +84,55 @@ fn the_last_element_of_a_rank_stays(rt: HostRuntime) -> Result<(), Fail> {
 #[test]
 fn elements_are_found_by_rank(rt: HostRuntime) -> Result<(), Fail> {
     let table = table_of(rt.alloc(), &[make(1, 'a'), make(5, 'e'), make(9, 'i')])?;
-    // a rank, the element that has it, and the first index with it or above it, and above it
     let rows = [
-        (0, None, 0, 0),
-        (1, Some('a'), 0, 1),
-        (2, None, 1, 1),
-        (5, Some('e'), 1, 2),
-        (9, Some('i'), 2, 3),
-        (10, None, 3, 3),
+        (0, None),
+        (1, Some('a')),
+        (2, None),
+        (5, Some('e')),
+        (9, Some('i')),
+        (10, None),
     ];
-    for (a, found, from, after) in rows {
-        let rank = key(2, a, 0).rank();
-        assert_eq!(rt; table.find(rank).map(|l| l.letter), found, "{a}");
-        assert_eq!(rt; table.first_from(rank), from, "{a}");
-        assert_eq!(rt; table.first_after(rank), after, "{a}");
+    for (a, found) in rows {
+        assert_eq!(rt;
+            table.find(key(2, a, 0).rank()).map(|l| l.letter),
+            found,
+            "{a}"
+        );
     }
+    Ok(())
+}
+
+#[test]
+fn the_elements_between_two_ranks_are_found(rt: HostRuntime) -> Result<(), Fail> {
+    let table = table_of(rt.alloc(), &[make(1, 'a'), make(5, 'e'), make(9, 'i')])?;
+    let end = Key::rank_after_kind(2);
+    // those from a key on, and those after it
+    let rows = [
+        (0, 3, 3),
+        (1, 3, 2),
+        (2, 2, 2),
+        (5, 2, 1),
+        (9, 1, 0),
+        (10, 0, 0),
+        (u64::MAX, 0, 0),
+    ];
+    for (a, from, after) in rows {
+        let key = Key { kind: 2, a, b: 0 };
+        assert_eq!(rt; table.between(key.rank(), end).len(), from, "{a}");
+        assert_eq!(rt; table.between(key.rank_after(), end).len(), after, "{a}");
+    }
+    let last = Key {
+        kind: 1,
+        a: u64::MAX,
+        b: u64::MAX,
+    };
+    assert_eq!(rt;
+        table
+            .between(last.rank_after(), end)
+            .first()
+            .map(|l| l.letter),
+        Some('a')
+    );
     Ok(())
 }
 
