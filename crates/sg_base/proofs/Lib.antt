@@ -4,3 +4,4 @@ pub mod DoubleLemmas
 pub mod DaypartLemmas
 pub mod RisingLemmas
 pub mod IndexLemmas
+pub mod StopLemmas
