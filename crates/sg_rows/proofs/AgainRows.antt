@@ -7,6 +7,7 @@ use Rattle.serde_json.specs.Data.{Data, number}
 use Rattle.serde_json.specs.Find.{of_integer}
 use Rattle.hex.specs.Hex.{IsBytes, encode_with, encode_lower, lower_digits}
 use Rattle.hex.proofs.HexLemmas.{decode_sized-encode_lower}
+use Rattle.sg_base.specs.declared.limits.TheConstants.{MAX_FILE_LEN}
 use Rattle.sg_base.specs.declared.layout.Item.{Item}
 use Rattle.sg_base.specs.declared.layout.Region.{Region}
 use Rattle.sg_base.specs.declared.file.Listed.{Listed}
@@ -63,7 +64,7 @@ file_again f h =
     let low : f.length < 2 ^ 32 = omega (arith, h.few) in
     let some : 0 < f.length = omega (arith, h.some) in
     let digest = decode_sized-encode_lower f.md5 16 h.digest h.bytes in
-    rw (id_again f.media.0 h.media, lt-ltb f.length (2 ^ 32) low, le-ltb 67108864 f.length h.few, lt-ltb 0 f.length some, are_digits f.md5 h.bytes, digest) refl
+    rw (id_again f.media.0 h.media, lt-ltb f.length (2 ^ 32) low, le-ltb MAX_FILE_LEN f.length h.few, lt-ltb 0 f.length some, are_digits f.md5 h.bytes, digest) refl
 
 pub integer_again : (z : ℤ) → IsMinutes z → integer_at (number (of_integer z)) ≡ Ok z
 integer_again (pos n) h =

@@ -1,22 +1,23 @@
 -- The JSON of a valid row of a schedule reads as the row.
-use Rattle.std.proofs.Common.{◌≡◌, ℕ, false, ◌^◌, ◌<◌, ◌≤◌, List, length, Ok, refl, lt-ltb, arith}
+use Rattle.std.proofs.Common.{◌≡◌, ◌≢◌, ℕ, false, ◌^◌, ◌<◌, ◌≤◌, List, [], length, Ok, subst, refl, lt-ltb, le-leb, arith}
 use Rattle.std.specs.Prelude.{Option, Some, None, IfSome, codes}
 use Rattle.std.specs.Str.{bytes_eq}
 use Rattle.serde_json.specs.Data.{string}
+use Rattle.sg_base.specs.declared.limits.TheConstants.{MAX_CAMPAIGN_LAYOUTS}
 use Rattle.sg_base.specs.declared.ids.LayoutId.{LayoutId}
 use Rattle.sg_base.specs.declared.campaign.Campaign.{Campaign as CampaignRow}
 use Rattle.sg_base.specs.declared.daypart.Window.{Window}
 use Rattle.sg_base.specs.declared.repeat.Unit.{Unit as RepeatUnit}
-use Rattle.sg_base.specs.declared.repeat.Unit.TheVariants.{Hour, Day, Week, Month, Year}
+use Rattle.sg_base.specs.declared.repeat.Unit.TheVariants.{Hour, Day, Week, Month, MonthWeekday, Year}
 use Rattle.sg_base.specs.declared.event.When.{When}
 use Rattle.sg_base.specs.declared.event.When.TheVariants.{Always, Custom, Named}
 use Rattle.sg_base.specs.declared.event.Target.{Target}
 use Rattle.sg_base.specs.declared.event.Target.TheVariants.{Layout, Campaign}
 use Rattle.sg_base.specs.declared.zone.ZoneRule.{ZoneRule}
 use Rattle.sg_base.specs.declared.zone.ZoneRule.TheVariants.{Offset, Posix}
-use Rattle.sg_base.specs.Daypart.{DaypartRow}
+use Rattle.sg_base.specs.Daypart.{DaypartRow, daypart_fault}
 use Rattle.sg_base.specs.Repeat.{RepeatRow, IsRepeat}
-use Rattle.sg_base.specs.Event.{EventRow}
+use Rattle.sg_base.specs.Event.{EventValue}
 use Rattle.sg_rows.specs.declared.form.Form.TheVariants.{Manifest}
 use Rattle.sg_rows.specs.Zone.{IsZone}
 use Rattle.sg_rows.specs.Rows.{IsLayoutId, IsCampaignRow, IsException, IsDaypartRow, IsTarget, IsWhen, IsRepeatRow, IsEventRow}
@@ -32,11 +33,10 @@ layout_id_again : (l : LayoutId) → IsLayoutId l → layout_id_at (layout_id_js
 unfolding layout_id_at
 layout_id_again l h = rw (id_again l.0 h) refl
 
-some_again : (ls : List LayoutId) → 1 ≤ length ls → length ls ≤ 64 → some_layouts ls ≡ Ok ls
+some_again : (ls : List LayoutId) → 1 ≤ length ls → length ls ≤ MAX_CAMPAIGN_LAYOUTS → some_layouts ls ≡ Ok ls
 some_again ls some few =
     let low : 0 < length ls = omega (arith, some) in
-    let high : length ls < 65 = omega (arith, few) in
-    rw (lt-ltb 0 (length ls) low, lt-ltb (length ls) 65 high) refl
+    rw (lt-ltb 0 (length ls) low, le-leb (length ls) MAX_CAMPAIGN_LAYOUTS few) refl
 
 pub campaign_again : (c : CampaignRow) → IsCampaignRow c → campaign_at (campaign_json c) ≡ Ok c
 unfolding campaign_at
@@ -53,6 +53,9 @@ exception_again e h =
     let day : e.0 < 2 ^ 32 = omega (arith, h.day) in
     rw (lt-ltb e.0 (2 ^ 32) day, lt-ltb e.0 256 h.day, lt-ltb e.1.start (2 ^ 32) h.window.start, lt-ltb e.1.end (2 ^ 32) h.window.end) refl
 
+fault_again : (d : DaypartRow) → IsDaypartRow d → daypart_fault d.window d.exceptions [] ≡ None
+fault_again d h = subst (λ (ds : List (ℕ × Window)). daypart_fault d.window d.exceptions ds ≡ None) h.undated h.accepted.sound
+
 pub daypart_again : (d : DaypartRow) → IsDaypartRow d → daypart_at (daypart_json d) ≡ Ok d
 unfolding daypart_at window_at
 daypart_again d h =
@@ -61,16 +64,18 @@ daypart_again d h =
       lt-ltb d.window.start (2 ^ 32) h.window.start,
       lt-ltb d.window.end (2 ^ 32) h.window.end,
       list_again exception_json exception_at IsException exception_again d.exceptions h.exceptions,
-      h.accepted.sound,
+      fault_again d h,
       sorted_again (λ (e : ℕ × Window). e.0) d.exceptions (rises_from_ascends d.exceptions h.accepted.ordered),
+      ← h.undated,
     ) refl
 
-unit_again : (u : RepeatUnit) → unit_at (string (unit_text u)) ≡ Ok u
-unit_again Hour = refl
-unit_again Day = refl
-unit_again Week = refl
-unit_again Month = refl
-unit_again Year = refl
+unit_again : (u : RepeatUnit) → u ≢ MonthWeekday → unit_at (string (unit_text u)) ≡ Ok u
+unit_again Hour h = refl
+unit_again Day h = refl
+unit_again Week h = refl
+unit_again Month h = refl
+unit_again MonthWeekday h = absurd (h refl)
+unit_again Year h = refl
 
 until_again : (o : Option ℕ) → IfSome o (λ day. day < 2 ^ 32) → nullable_at number_at (until_json o) ≡ Ok o
 until_again None h = refl
@@ -81,22 +86,23 @@ pub repeat_again : (o : Option RepeatRow) → IfSome o IsRepeatRow → nullable_
 unfolding repeat_at
 repeat_again None h = refl
 repeat_again (Some r) h =
-    rw (days_again r.days h.days, lt-ltb r.every (2 ^ 32) h.every, unit_again r.unit, until_again r.until h.until) refl
+    rw (days_again r.days h.days, lt-ltb r.every (2 ^ 32) h.every, unit_again r.unit h.unit, until_again r.until h.until) refl
 
 made_repeat_again : (o : Option RepeatRow) → IfSome o IsRepeat → made_repeat o ≡ Ok o
 made_repeat_again None h = refl
 made_repeat_again (Some r) h = rw h.sound refl
 
-unit_now : (u : RepeatUnit) → bytes_eq (unit_text u) (codes "month-weekday") ≡ false
-unit_now Hour = refl
-unit_now Day = refl
-unit_now Week = refl
-unit_now Month = refl
-unit_now Year = refl
+unit_now : (u : RepeatUnit) → u ≢ MonthWeekday → bytes_eq (unit_text u) (codes "month-weekday") ≡ false
+unit_now Hour h = refl
+unit_now Day h = refl
+unit_now Week h = refl
+unit_now Month h = refl
+unit_now MonthWeekday h = absurd (h refl)
+unit_now Year h = refl
 
-pub repeat_now : (o : Option RepeatRow) → is_later_repeat (repeat_json o) ≡ false
-repeat_now None = refl
-repeat_now (Some r) = unit_now r.unit
+pub repeat_now : (o : Option RepeatRow) → IfSome o IsRepeatRow → is_later_repeat (repeat_json o) ≡ false
+repeat_now None h = refl
+repeat_now (Some r) h = unit_now r.unit h.unit
 
 pub target_again : (t : Target) → IsTarget t → target_at (target_json t) ≡ Ok t
 target_again (Layout id) h = rw (id_again id.0 h) refl
@@ -109,11 +115,12 @@ when_again (Custom from to) h = rw (lt-ltb from (2 ^ 32) h.0, lt-ltb to (2 ^ 32)
 when_again (Named daypart date) h = rw (lt-ltb date (2 ^ 32) h.1, id_again daypart.0 h.0) refl
 
 -- the members of an event
-pub parts_again : (e : EventRow) → IsEventRow e → parts_at Manifest (event_json e) ≡ Ok e
+pub parts_again : (e : EventValue) → IsEventRow e → parts_at Manifest (event_json e) ≡ Ok e
 unfolding parts_at
 parts_again e h =
     rw (
-      repeat_now e.repeat,
+      repeat_now e.repeat h.repeat,
+      ← h.layer,
       id_again e.id.0 h.id,
       lt-ltb e.order (2 ^ 32) h.order,
       lt-ltb e.priority (2 ^ 32) h.priority,
@@ -123,10 +130,10 @@ parts_again e h =
       when_again e.when h.when,
     ) refl
 
-pub made_event_again : (e : EventRow) → IsEventRow e → made_event e ≡ Ok e
+pub made_event_again : (e : EventValue) → IsEventRow e → made_event e ≡ Ok e
 made_event_again e h = rw (made_repeat_again e.repeat h.accepted.repeats, h.accepted.sound) refl
 
-pub event_again : (e : EventRow) → IsEventRow e → event_at (event_json e) ≡ Ok e
+pub event_again : (e : EventValue) → IsEventRow e → event_at (event_json e) ≡ Ok e
 unfolding event_at
 event_again e h = rw (parts_again e h) (made_event_again e h)
 

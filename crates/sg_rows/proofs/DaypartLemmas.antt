@@ -1,40 +1,71 @@
--- A daypart that was made has its exceptions by weekday.
-use Rattle.std.proofs.Common.{◌≡◌, ℕ, List, [], Option, None, Ok, refl}
+-- A daypart that was made has its exceptions by weekday and its dates ascending.
+use Rattle.std.proofs.Common.{◌≡◌, ℕ, nat_lt, length, Bool, true, false, List, [], Option, Some, None, refl}
+use Rattle.std.specs.Prelude.{if◌then◌else◌}
 use Rattle.std.specs.List.{AllByRecursion, IsDistinct}
 use Rattle.std.specs.List.Sorted.{IsPermutation}
 use Rattle.sg_base.specs.declared.ids.DaypartId.{DaypartId}
+use Rattle.sg_base.specs.declared.limits.TheConstants.{MAX_DATES}
 use Rattle.sg_base.specs.declared.daypart.Window.{Window}
-use Rattle.sg_base.specs.declared.daypart.DaypartFault.TheVariants.{DoubleWeekday}
+use Rattle.sg_base.specs.declared.daypart.DaypartFault.{DaypartFault}
+use Rattle.sg_base.specs.declared.daypart.DaypartFault.TheVariants.{DoubleWeekday, ManyDates, DoubleDate}
 use Rattle.sg_base.specs.Faults.{first_of, first_in}
-use Rattle.sg_base.specs.Daypart.{DaypartRow, IsDaypart, Ascends, window_fault, weekday_fault, double_fault, daypart_fault}
+use Rattle.sg_base.specs.Daypart.{DaypartRow, IsDaypart, Ascends, weekday_fault, double_fault, weekdays_fault, date_fault, double_date_fault, dates_fault, times_fault, daypart_fault}
 use Rattle.sg_base.proofs.FaultLemmas.{first_none}
 use Rattle.sg_base.proofs.DoubleLemmas.{same, distinct_from_none}
 use Rattle.sg_rows.specs.Order.{sorted_by}
 use Rattle.sg_rows.specs.Rows.{IsId, IsWindow, IsException, IsDaypartRow}
 use Rattle.sg_rows.proofs.OrderLemmas.{all_sorted, sorted_rises, sorted_moves, ascends_from_rises}
 
--- exceptions without a fault ascend once they are in order
-sorted_ascends : (w : Window) (es : List (ℕ × Window)) → daypart_fault w es ≡ None → Ascends (sorted_by (λ e. e.0) es)
-sorted_ascends w es h =
-    let parts = first_none (first_of (window_fault w) (first_in (λ e. window_fault e.1) es)) (first_of (first_in weekday_fault es) (double_fault es)) h in
-    let days = first_none (first_in weekday_fault es) (double_fault es) parts.1 in
-    let apart : IsDistinct (same (λ (e : ℕ × Window). e.0)) es = distinct_from_none (λ (e : ℕ × Window). e.0) (λ day. DoubleWeekday day) [] es days.1 in
-    ascends_from_rises (sorted_by (λ e. e.0) es) (sorted_rises (λ (e : ℕ × Window). e.0) es apart)
+-- entries of different numbers ascend once they are in order
+ascends_sorted : (es : List (ℕ × Window)) → IsDistinct (same (λ e. e.0)) es → Ascends (sorted_by (λ e. e.0) es)
+ascends_sorted es apart = ascends_from_rises (sorted_by (λ e. e.0) es) (sorted_rises (λ (e : ℕ × Window). e.0) es apart)
 
--- another ascending order of the exceptions is the one that a daypart has
-pub order_made : (w : Window) (es : List (ℕ × Window)) (d : DaypartRow) → daypart_fault w es ≡ None
-    → ((fs : List (ℕ × Window)) → IsPermutation es fs → Ascends fs → d.exceptions ≡ fs) → d.exceptions ≡ sorted_by (λ e. e.0) es
-order_made w es d none one = one (sorted_by (λ e. e.0) es) (sorted_moves (λ (e : ℕ × Window). e.0) es) (sorted_ascends w es none)
+exceptions_ascend : (w : Window) (es ds : List (ℕ × Window)) → daypart_fault w es ds ≡ None → Ascends (sorted_by (λ e. e.0) es)
+exceptions_ascend w es ds h =
+    let parts = first_none (times_fault w es ds) (first_of (weekdays_fault es) (dates_fault ds)) h in
+    let lists = first_none (weekdays_fault es) (dates_fault ds) parts.1 in
+    let days = first_none (first_in weekday_fault es) (double_fault es) lists.0 in
+    ascends_sorted es (distinct_from_none (λ (e : ℕ × Window). e.0) (λ day. DoubleWeekday day) [] es days.1)
 
-pub row_made : (id : DaypartId) (w : Window) (es : List (ℕ × Window)) (d : DaypartRow) → d.id ≡ id → d.window ≡ w → d.exceptions ≡ sorted_by (λ e. e.0) es
-    → (record { id = id; window = w; exceptions = sorted_by (λ e. e.0) es }) ≡ d
-row_made id w es d e f g = rw (← e, ← f, ← g) refl
+few_dates : (b : Bool) (f : DaypartFault) (rest : Option DaypartFault) → (if b then Some f else rest) ≡ None → rest ≡ None
+few_dates true f rest e = absurd (cc)
+few_dates false f rest e = e
 
-pub valid_made : (id : DaypartId) (w : Window) (es : List (ℕ × Window)) (d : DaypartRow) → IsId id.0 → IsWindow w → AllByRecursion IsException es
-    → d.id ≡ id → d.window ≡ w → d.exceptions ≡ sorted_by (λ e. e.0) es → IsDaypart d → IsDaypartRow d
-valid_made id w es d i v all e f g accepted = record {
-  id = rw e i;
-  window = rw f v;
-  exceptions = rw g (all_sorted IsException (λ (e : ℕ × Window). e.0) es all);
+dates_ascend : (w : Window) (es ds : List (ℕ × Window)) → daypart_fault w es ds ≡ None → Ascends (sorted_by (λ e. e.0) ds)
+dates_ascend w es ds h =
+    let parts = first_none (times_fault w es ds) (first_of (weekdays_fault es) (dates_fault ds)) h in
+    let lists = first_none (weekdays_fault es) (dates_fault ds) parts.1 in
+    let few = few_dates (nat_lt MAX_DATES (length ds)) (ManyDates (length ds)) (first_of (first_in date_fault ds) (double_date_fault ds)) lists.1 in
+    let days = first_none (first_in date_fault ds) (double_date_fault ds) few in
+    ascends_sorted ds (distinct_from_none (λ (e : ℕ × Window). e.0) (λ day. DoubleDate day) [] ds days.1)
+
+-- the lists of a daypart that was made, where another ascending order of one is the same
+pub record Made (id : DaypartId) (w : Window) (es ds : List (ℕ × Window)) (d : DaypartRow) : Type 0 where
+  pub none : daypart_fault w es ds ≡ None
+  pub named : d.id ≡ id
+  pub window : d.window ≡ w
+  pub exceptions : (fs : List (ℕ × Window)) → IsPermutation es fs → Ascends fs → d.exceptions ≡ fs
+  pub dates : (fs : List (ℕ × Window)) → IsPermutation ds fs → Ascends fs → d.dates ≡ fs
+
+-- the daypart of windows in whatever order
+abbrev pub ordered : DaypartId → Window → List (ℕ × Window) → List (ℕ × Window) → DaypartRow
+ordered id w es ds = record { id = id; window = w; exceptions = sorted_by (λ e. e.0) es; dates = sorted_by (λ e. e.0) ds }
+
+exceptions_made : (id : DaypartId) (w : Window) (es ds : List (ℕ × Window)) (d : DaypartRow) → Made id w es ds d → d.exceptions ≡ sorted_by (λ e. e.0) es
+exceptions_made id w es ds d h = h.exceptions (sorted_by (λ e. e.0) es) (sorted_moves (λ (e : ℕ × Window). e.0) es) (exceptions_ascend w es ds h.none)
+
+dates_made : (id : DaypartId) (w : Window) (es ds : List (ℕ × Window)) (d : DaypartRow) → Made id w es ds d → d.dates ≡ sorted_by (λ e. e.0) ds
+dates_made id w es ds d h = h.dates (sorted_by (λ e. e.0) ds) (sorted_moves (λ (e : ℕ × Window). e.0) ds) (dates_ascend w es ds h.none)
+
+pub row_made : (id : DaypartId) (w : Window) (es ds : List (ℕ × Window)) (d : DaypartRow) → Made id w es ds d → ordered id w es ds ≡ d
+row_made id w es ds d h = rw (← h.named, ← h.window, ← exceptions_made id w es ds d h, ← dates_made id w es ds d h) refl
+
+pub valid_made : (id : DaypartId) (w : Window) (es ds : List (ℕ × Window)) (d : DaypartRow) → Made id w es ds d → IsId id.0 → IsWindow w → AllByRecursion IsException es
+    → ds ≡ [] → IsDaypart d → IsDaypartRow d
+valid_made id w es ds d h i v all none accepted = record {
+  id = rw h.named i;
+  window = rw h.window v;
+  exceptions = rw (exceptions_made id w es ds d h) (all_sorted IsException (λ (e : ℕ × Window). e.0) es all);
+  undated = rw (dates_made id w es ds d h, none) refl;
   accepted = accepted;
 }

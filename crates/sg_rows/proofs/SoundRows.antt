@@ -15,7 +15,7 @@ use Rattle.sg_base.specs.declared.layout.Region.{Region}
 use Rattle.sg_base.specs.declared.campaign.Campaign.{Campaign as CampaignRow}
 use Rattle.sg_base.specs.declared.daypart.Window.{Window}
 use Rattle.sg_base.specs.declared.repeat.Unit.{Unit as RepeatUnit}
-use Rattle.sg_base.specs.declared.repeat.Unit.TheVariants.{Hour, Day, Week, Month, Year}
+use Rattle.sg_base.specs.declared.repeat.Unit.TheVariants.{Hour, Day, Week, Month, MonthWeekday, Year}
 use Rattle.sg_base.specs.declared.event.When.{When}
 use Rattle.sg_base.specs.declared.event.When.TheVariants.{Always, Custom, Named}
 use Rattle.sg_base.specs.declared.event.Target.{Target}
@@ -26,7 +26,7 @@ use Rattle.sg_base.specs.declared.zone.ZoneRule.TheVariants.{Offset, Posix}
 use Rattle.sg_base.specs.Layout.{LayoutRow}
 use Rattle.sg_base.specs.Daypart.{DaypartRow}
 use Rattle.sg_base.specs.Repeat.{RepeatRow}
-use Rattle.sg_base.specs.Event.{EventRow}
+use Rattle.sg_base.specs.Event.{EventValue}
 use Rattle.sg_rows.specs.Zone.{IsZone}
 use Rattle.sg_rows.specs.Rows.{IsId, IsItem, IsRegion, IsLayoutRow, IsLayoutId, IsCampaignRow, IsException, IsDaypartRow, IsTarget, IsWhen, IsRepeatRow, IsEventRow, IsListed}
 use Rattle.sg_rows.specs.Text.{whole, item_json, region_json, layout_json, layout_id_json, campaign_json, exception_json, daypart_json, weekdays, unit_text, until_json, repeat_json, target_json, when_json, event_json, file_json, zone_json}
@@ -85,6 +85,7 @@ unit_sound Hour = Sound-literal _ refl
 unit_sound Day = Sound-literal _ refl
 unit_sound Week = Sound-literal _ refl
 unit_sound Month = Sound-literal _ refl
+unit_sound MonthWeekday = Sound-literal _ refl
 unit_sound Year = Sound-literal _ refl
 
 until_sound : (o : Option ℕ) → IfSome o (λ day. day < 2 ^ 32) → Sound 3 (until_json o)
@@ -105,7 +106,7 @@ when_sound Always h = Sound-object refl (Sound-boolean true, tt)
 when_sound (Custom from to) h = Sound-object refl (number_sound _ h.0, (number_sound _ h.1, tt))
 when_sound (Named daypart date) h = Sound-object refl (number_sound _ h.1, (id_sound _ h.0, tt))
 
-pub event_sound : (e : EventRow) → IsEventRow e → Sound 5 (event_json e)
+pub event_sound : (e : EventValue) → IsEventRow e → Sound 5 (event_json e)
 event_sound e h =
     Sound-object refl (
       id_sound _ h.id,

@@ -1,6 +1,6 @@
 -- The row that JSON says, or its first fault: `Later`, then `Shape`, then that of the row's constructor. Members may
 -- come in any order; which text is the canonical one is no question of a row.
-use Rattle.std.specs.Prelude.{ℕ, ◌+◌, ◌-◌, ◌^◌, ◌&&◌, ◌==◌, nat_lt, Bool, true, false, not, List, [], ◌∷◌, codes, length, if◌then◌else◌, is_some, unwrap_or, Option, Some, None, option_map, option_and_then, Result, Ok, Err}
+use Rattle.std.specs.Prelude.{ℕ, ◌+◌, ◌-◌, ◌^◌, ◌&&◌, ◌==◌, nat_lt, nat_le, Bool, true, false, not, List, [], ◌∷◌, codes, length, if◌then◌else◌, is_some, unwrap_or, Option, Some, None, option_map, option_and_then, Result, Ok, Err}
 use Rattle.std.specs.Str.{bytes_eq}
 use Rattle.serde_json.specs.Data.{Data, Items, no_items, item}
 use Rattle.serde_json.specs.Find.{get, as_bool, as_str, as_array}
@@ -18,10 +18,11 @@ use Rattle.sg_base.specs.declared.event.Target.{Target}
 use Rattle.sg_base.specs.declared.event.Target.TheVariants.{Layout, Campaign}
 use Rattle.sg_base.specs.declared.zone.ZoneRule.{ZoneRule}
 use Rattle.sg_base.specs.declared.zone.ZoneRule.TheVariants.{Offset, Posix}
+use Rattle.sg_base.specs.declared.limits.TheConstants.{MAX_FILE_LEN, MAX_CAMPAIGN_LAYOUTS}
 use Rattle.sg_base.specs.Layout.{LayoutRow, layout_fault}
 use Rattle.sg_base.specs.Daypart.{DaypartRow, daypart_fault}
 use Rattle.sg_base.specs.Repeat.{RepeatRow, repeat_fault}
-use Rattle.sg_base.specs.Event.{EventRow, event_fault}
+use Rattle.sg_base.specs.Event.{EventValue, event_fault}
 use Rattle.sg_calendar.specs.Zone.{ZoneView, zone_of}
 use Rattle.sg_calendar.specs.declared.zone.ZoneFault.{ZoneFault}
 use Rattle.sg_rows.specs.declared.form.Form.{Form}
@@ -35,9 +36,9 @@ use Rattle.sg_rows.specs.Order.{sorted_by}
 
 -- ---- files
 
--- a length of 1 to 67,108,864 bytes
+-- a length of at least a byte
 abbrev pub file_length : ℕ → Result ℕ RowFault
-file_length n = if nat_lt 67108864 n then Err Shape else positive n
+file_length n = if nat_lt MAX_FILE_LEN n then Err Shape else positive n
 
 unfoldable pub file_at : Data → Result Listed RowFault
 file_at d = do
@@ -78,9 +79,9 @@ layout_id_at d = do
   id ← id_at d
   Ok (record { 0 = id })
 
--- 1 to 64 layouts
+-- at least one layout
 abbrev pub some_layouts : List LayoutId → Result (List LayoutId) RowFault
-some_layouts ls = if nat_lt 0 (length ls) && nat_lt (length ls) 65 then Ok ls else Err Shape
+some_layouts ls = if nat_lt 0 (length ls) && nat_le (length ls) MAX_CAMPAIGN_LAYOUTS then Ok ls else Err Shape
 
 unfoldable pub campaign_at : Data → Result CampaignRow RowFault
 campaign_at d = do
@@ -118,7 +119,7 @@ daypart_at d = do
   id ← member_at id_at (codes "id") d
   window ← window_at d
   es ← member_at (list_at exception_at) (codes "exceptions") d
-  faultless fault.Daypart (daypart_fault window es) (record { id = record { 0 = id }; window = window; exceptions = sorted_by (λ e. e.0) es })
+  faultless fault.Daypart (daypart_fault window es []) (record { id = record { 0 = id }; window = window; exceptions = sorted_by (λ e. e.0) es; dates = [] })
 
 -- ---- repeats
 
@@ -213,7 +214,7 @@ event_members Manifest = 7
 event_members Edit = 9
 
 -- the seven members of an event, in either form
-unfoldable pub parts_at : Form → Data → Result EventRow RowFault
+unfoldable pub parts_at : Form → Data → Result EventValue RowFault
 parts_at form d = do
   now ← needs (not (is_later_event d)) Later
   all ← exactly (event_members form) d
@@ -224,7 +225,7 @@ parts_at form d = do
   share ← member_at number_at (codes "share") d
   target ← member_at target_at (codes "target") d
   w ← member_at when_at (codes "when") d
-  Ok (record { id = record { 0 = id }; target = target; when = w; repeat = repeat; order = order; priority = priority; share = share })
+  Ok (record { id = record { 0 = id }; layer = 0; target = target; when = w; repeat = repeat; order = order; priority = priority; share = share })
 
 -- the repeat's own fault
 abbrev pub made_repeat : Option RepeatRow → Result (Option RepeatRow) RowFault
@@ -232,11 +233,11 @@ made_repeat None = Ok None
 made_repeat (Some r) = faultless fault.Repeat (repeat_fault r.unit r.every r.days r.until) (Some r)
 
 -- the event's own fault, after its repeat's
-abbrev pub made_event : EventRow → Result EventRow RowFault
-made_event e = made_repeat e.repeat >>= (λ r. faultless fault.Event (event_fault e.target e.when r e.order e.priority e.share) (record { id = e.id; target = e.target; when = e.when; repeat = r; order = e.order; priority = e.priority; share = e.share }))
+abbrev pub made_event : EventValue → Result EventValue RowFault
+made_event e = made_repeat e.repeat >>= (λ r. faultless fault.Event (event_fault e.layer e.target e.when r e.order e.priority e.share) (record { id = e.id; layer = e.layer; target = e.target; when = e.when; repeat = r; order = e.order; priority = e.priority; share = e.share }))
 
 -- an event of a manifest
-unfoldable pub event_at : Data → Result EventRow RowFault
+unfoldable pub event_at : Data → Result EventValue RowFault
 event_at d = do
   parts ← parts_at Manifest d
   made_event parts

@@ -1,6 +1,6 @@
 -- When a row of a manifest is valid: its constructor accepts it, its ids are at least 1, and its numbers fit
 -- the types that hold them.
-use Rattle.std.specs.Prelude.{◌≡◌, ℕ, ◌^◌, ◌<◌, ◌≤◌, length, IfSome}
+use Rattle.std.specs.Prelude.{◌≡◌, ◌≢◌, ℕ, ◌^◌, ◌<◌, ◌≤◌, [], length, IfSome}
 use Rattle.std.specs.List.{AllByRecursion}
 use Rattle.hex.specs.Hex.{IsBytes}
 use Rattle.sg_base.specs.declared.ids.LayoutId.{LayoutId}
@@ -8,15 +8,17 @@ use Rattle.sg_base.specs.declared.layout.Item.{Item}
 use Rattle.sg_base.specs.declared.layout.Region.{Region}
 use Rattle.sg_base.specs.declared.campaign.Campaign.{Campaign as CampaignRow}
 use Rattle.sg_base.specs.declared.daypart.Window.{Window}
+use Rattle.sg_base.specs.declared.repeat.Unit.TheVariants.{MonthWeekday}
 use Rattle.sg_base.specs.declared.event.When.{When}
 use Rattle.sg_base.specs.declared.event.When.TheVariants.{Always, Custom, Named}
 use Rattle.sg_base.specs.declared.event.Target.{Target}
 use Rattle.sg_base.specs.declared.event.Target.TheVariants.{Layout, Campaign}
 use Rattle.sg_base.specs.declared.file.Listed.{Listed}
+use Rattle.sg_base.specs.declared.limits.TheConstants.{MAX_FILE_LEN, MAX_CAMPAIGN_LAYOUTS}
 use Rattle.sg_base.specs.Layout.{LayoutRow, IsLayout}
 use Rattle.sg_base.specs.Daypart.{DaypartRow, IsDaypart}
 use Rattle.sg_base.specs.Repeat.{RepeatRow}
-use Rattle.sg_base.specs.Event.{EventRow, IsEvent}
+use Rattle.sg_base.specs.Event.{EventValue, IsEvent}
 
 -- an id of a row is at least 1 and has 32 bits
 pub record IsId (n : ℕ) : Type 0 where
@@ -39,11 +41,11 @@ pub record IsLayoutRow (l : LayoutRow) : Type 0 where
 abbrev pub IsLayoutId : LayoutId → Type 0
 IsLayoutId l = IsId l.0
 
--- a campaign has 1 to 64 layouts
+-- a campaign has a layout at least
 pub record IsCampaignRow (c : CampaignRow) : Type 0 where
   pub id : IsId c.id.0
   pub some : 1 ≤ length c.layouts
-  pub few : length c.layouts ≤ 64
+  pub few : length c.layouts ≤ MAX_CAMPAIGN_LAYOUTS
   pub layouts : AllByRecursion IsLayoutId c.layouts
 
 pub record IsWindow (w : Window) : Type 0 where
@@ -59,6 +61,7 @@ pub record IsDaypartRow (d : DaypartRow) : Type 0 where
   pub id : IsId d.id.0
   pub window : IsWindow d.window
   pub exceptions : AllByRecursion IsException d.exceptions
+  pub undated : d.dates ≡ []
   pub accepted : IsDaypart d
 
 abbrev pub IsTarget : Target → Type 0
@@ -70,15 +73,17 @@ IsWhen Always = Unit {0}
 IsWhen (Custom from to) = (from < 2 ^ 32) × (to < 2 ^ 32)
 IsWhen (Named daypart date) = IsId daypart.0 × (date < 2 ^ 32)
 
--- seven weekdays: bit w - 1 of days is weekday w
+-- the unit of the version to come isn't said; seven weekdays: bit w - 1 of days is weekday w
 pub record IsRepeatRow (r : RepeatRow) : Type 0 where
+  pub unit : r.unit ≢ MonthWeekday
   pub every : r.every < 2 ^ 32
   pub days : r.days < 2 ^ 7
   pub until : IfSome r.until (λ day. day < 2 ^ 32)
 
 -- the numbers of an event fit, its repeat's too
-pub record IsEventParts (e : EventRow) : Type 0 where
+pub record IsEventParts (e : EventValue) : Type 0 where
   pub id : IsId e.id.0
+  pub layer : e.layer ≡ 0
   pub target : IsTarget e.target
   pub when : IsWhen e.when
   pub repeat : IfSome e.repeat IsRepeatRow
@@ -86,8 +91,9 @@ pub record IsEventParts (e : EventRow) : Type 0 where
   pub priority : e.priority < 2 ^ 32
   pub share : e.share < 2 ^ 32
 
-pub record IsEventRow (e : EventRow) : Type 0 where
+pub record IsEventRow (e : EventValue) : Type 0 where
   pub id : IsId e.id.0
+  pub layer : e.layer ≡ 0
   pub target : IsTarget e.target
   pub when : IsWhen e.when
   pub repeat : IfSome e.repeat IsRepeatRow
@@ -96,10 +102,10 @@ pub record IsEventRow (e : EventRow) : Type 0 where
   pub share : e.share < 2 ^ 32
   pub accepted : IsEvent e
 
--- a file has 1 to 67,108,864 bytes, and a digest of 16 (RFC 1321)
+-- a file has a byte at least, and a digest of 16 (RFC 1321)
 pub record IsListed (f : Listed) : Type 0 where
   pub media : IsId f.media.0
   pub some : 1 ≤ f.length
-  pub few : f.length ≤ 67108864
+  pub few : f.length ≤ MAX_FILE_LEN
   pub digest : length f.md5 ≡ 16
   pub bytes : IsBytes f.md5

@@ -10,7 +10,7 @@ use Rattle.sg_base.specs.declared.layout.Region.{Region}
 use Rattle.sg_base.specs.declared.campaign.Campaign.{Campaign as CampaignRow}
 use Rattle.sg_base.specs.declared.daypart.Window.{Window}
 use Rattle.sg_base.specs.declared.repeat.Unit.{Unit as RepeatUnit}
-use Rattle.sg_base.specs.declared.repeat.Unit.TheVariants.{Hour, Day, Week, Month, Year}
+use Rattle.sg_base.specs.declared.repeat.Unit.TheVariants.{Hour, Day, Week, Month, MonthWeekday, Year}
 use Rattle.sg_base.specs.declared.event.When.{When}
 use Rattle.sg_base.specs.declared.event.When.TheVariants.{Always, Custom, Named}
 use Rattle.sg_base.specs.declared.event.Target.{Target}
@@ -21,7 +21,7 @@ use Rattle.sg_base.specs.declared.zone.ZoneRule.TheVariants.{Offset, Posix}
 use Rattle.sg_base.specs.Layout.{LayoutRow}
 use Rattle.sg_base.specs.Daypart.{DaypartRow}
 use Rattle.sg_base.specs.Repeat.{RepeatRow}
-use Rattle.sg_base.specs.Event.{EventRow}
+use Rattle.sg_base.specs.Event.{EventValue}
 
 abbrev pub whole : ℕ → Data
 whole n = number (unsigned n)
@@ -64,6 +64,7 @@ unit_text Hour = codes "hour"
 unit_text Day = codes "day"
 unit_text Week = codes "week"
 unit_text Month = codes "month"
+unit_text MonthWeekday = codes "month-weekday"
 unit_text Year = codes "year"
 
 abbrev pub until_json : Option ℕ → Data
@@ -87,7 +88,7 @@ when_json Always = object (member (codes "always") (boolean true) no_members)
 when_json (Custom from to) = object (member (codes "from") (whole from) (member (codes "to") (whole to) no_members))
 when_json (Named daypart date) = object (member (codes "date") (whole date) (member (codes "daypart") (whole daypart.0) no_members))
 
-abbrev pub event_json : EventRow → Data
+abbrev pub event_json : EventValue → Data
 event_json e = object
     (member (codes "id") (whole e.id.0)
     (member (codes "order") (whole e.order)

@@ -1,13 +1,14 @@
 -- Which zone rules a manifest may have.
-use Rattle.std.specs.Prelude.{ℤ, pos, neg_ℤ, ◌≤ℤ◌, IsOk}
+use Rattle.std.specs.Prelude.{ℤ, neg_ℤ, ◌≤ℤ◌, IsOk}
+use Rattle.sg_base.specs.declared.limits.TheConstants.{MAX_OFFSET}
 use Rattle.sg_base.specs.declared.zone.ZoneRule.{ZoneRule}
 use Rattle.sg_calendar.specs.Zone.{zone_of}
 
--- a rule that tells a zone: an offset within 14 hours of UTC, or a POSIX TZ text that is read
+-- a rule that tells a zone: an offset within the limit, or a POSIX TZ text that is read
 abbrev pub IsZone : ZoneRule → Type 0
 IsZone rule = IsOk (zone_of rule)
 
--- for private clauses: minutes within 14 hours of UTC
+-- for private clauses: minutes within the limit
 pub record IsMinutes (z : ℤ) : Type 0 where
-  pub low : neg_ℤ (pos 840) ≤ℤ z
-  pub high : z ≤ℤ pos 840
+  pub low : neg_ℤ MAX_OFFSET ≤ℤ z
+  pub high : z ≤ℤ MAX_OFFSET

@@ -10,11 +10,9 @@ use crate::entry::{Entry, Keyed, read_list, write_list};
 use crate::fault::RowFault;
 use crate::part;
 use serde_json::{Value, json};
+use sg_base::limits::MAX_CAMPAIGN_LAYOUTS;
 use sg_base::{Campaign, CampaignId, LayoutId, Rows};
 use std::alloc::{AllocError, Global};
-
-/// The most layouts of a campaign.
-const LAYOUTS_LIMIT: usize = 64;
 
 #[tactic(auto, unfolding(crate::specs::Reading::layout_id_at))]
 impl Entry for LayoutId {
@@ -38,15 +36,15 @@ impl Entry for LayoutId {
     }
 }
 
-/// 1 to 64 layouts.
+/// At least one layout, and no more than a campaign may have.
 fn some_layouts(layouts: Vec<LayoutId>) -> Result<Rows<LayoutId>, RowFault>
     requires { AllByRecursion IsLayoutId layouts.items }
     ensures gives { Gives (λ ls. ls) result (some_layouts layouts.items) }
     ensures some { IfOk result (λ ls. 1 ≤ length ls) }
-    ensures few { IfOk result (λ ls. length ls ≤ 64) }
+    ensures few { IfOk result (λ ls. length ls ≤ MAX_CAMPAIGN_LAYOUTS) }
     ensures sound { IfOk result (λ ls. AllByRecursion IsLayoutId ls) }
 {
-    if layouts.is_empty() || layouts.len() > LAYOUTS_LIMIT {
+    if layouts.is_empty() || layouts.len() > MAX_CAMPAIGN_LAYOUTS {
         return Err(RowFault::Shape);
     }
     Ok(Rows::from_vec(layouts))

@@ -1,6 +1,6 @@
 //! Dayparts in JSON: a window with its exceptions.
 
-ghost use Rattle.std.specs.Prelude.{◌≡◌, ◌^◌, ◌<◌, IfOk, not, codes};
+ghost use Rattle.std.specs.Prelude.{◌≡◌, ◌^◌, ◌<◌, [], IfOk, not, codes};
 ghost use Rattle.std.specs.List.{AllByRecursion};
 ghost use Rattle.serde_json.specs.View.{view};
 ghost use Rattle.sg_base.specs.Daypart.{IsDaypart, daypart_fault};
@@ -74,16 +74,28 @@ fn not_later(value: &Value) -> Result<(), RowFault>
     }
 }
 
-/// The daypart of windows, its exceptions by weekday.
-fn made(id: u32, window: Window, exceptions: Vec<(u8, Window)>) -> Result<Daypart, RowFault>
+/// The daypart of windows, its exceptions by weekday. This version has no dates.
+fn made(
+    id: u32,
+    window: Window,
+    exceptions: Vec<(u8, Window)>,
+    dates: Vec<(u32, Window)>,
+) -> Result<Daypart, RowFault>
     requires id { IsId id }
     requires window { IsWindow window }
     requires exceptions { AllByRecursion IsException exceptions.items }
-    ensures gives { Gives (λ d. d) result (faultless DaypartCause (daypart_fault window exceptions.items)
-        (record { id = record { 0 = id }; window = window; exceptions = sorted_by (λ e. e.0) exceptions.items })) }
+    requires none { dates.items ≡ [] }
+    ensures gives { Gives (λ d. d) result
+        (faultless DaypartCause (daypart_fault window exceptions.items dates.items)
+        (record {
+          id = record { 0 = id };
+          window = window;
+          exceptions = sorted_by (λ e. e.0) exceptions.items;
+          dates = sorted_by (λ e. e.0) dates.items;
+        })) }
     ensures sound { IfOk result IsDaypartRow }
 {
-    match Daypart::new(DaypartId(id), window, exceptions) {
+    match Daypart::new(DaypartId(id), window, exceptions, dates) {
         Ok(daypart) => Ok(daypart),
         Err(fault) => Err(RowFault::Daypart(fault)),
     }
@@ -118,7 +130,7 @@ impl Entry for Daypart {
         let id = part::id(value, "id")?;
         let window = window(value)?;
         let exceptions = read_list(alloc, part::member(value, "exceptions")?)?;
-        made(id, window, exceptions)
+        made(id, window, exceptions, Vec::new(alloc))
     }
 }
 

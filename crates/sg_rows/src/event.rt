@@ -115,6 +115,7 @@ pub fn write_when(alloc: Global, when: When) -> Result<Value, AllocError>
 #[derive(Clone, Copy, Debug)]
 pub struct EventParts {
     id: EventId,
+    layer: u32,
     target: Target,
     when: When,
     repeat: Option<RepeatParts>,
@@ -124,13 +125,13 @@ pub struct EventParts {
 }
 
 impl Model for EventParts {
-    ghost use Rattle.sg_base.specs.Event.{EventRow};
+    ghost use Rattle.sg_base.specs.Event.{EventValue};
 
-    ghost Value = { EventRow };
+    ghost Value = { EventValue };
 
-    ghost view = { λ e. record { id = e.id; target = e.target; when = e.when; repeat = e.repeat; order = e.order; priority = e.priority; share = e.share } };
+    ghost view = { λ e. record { id = e.id; layer = e.layer; target = e.target; when = e.when; repeat = e.repeat; order = e.order; priority = e.priority; share = e.share } };
 
-    ghost inverse = { λ e. record { id = e.id; target = e.target; when = e.when; repeat = e.repeat; order = e.order; priority = e.priority; share = e.share } };
+    ghost inverse = { λ e. record { id = e.id; layer = e.layer; target = e.target; when = e.when; repeat = e.repeat; order = e.order; priority = e.priority; share = e.share } };
 }
 
 /// The values of an event's own seven members, where it is of its form. It is refused with `Later`, then with `Shape`.
@@ -150,6 +151,7 @@ pub fn read_event_parts(form: Form, value: &Value) -> Result<EventParts, RowFaul
     let when = read_when(part::member(value, "when")?)?;
     Ok(EventParts {
         id: EventId(id),
+        layer: 0,
         target,
         when,
         repeat,
@@ -168,6 +170,7 @@ pub fn make_event(parts: EventParts) -> Result<Event, RowFault>
     let repeat = made_repeat(parts.repeat)?;
     match Event::new(
         parts.id,
+        parts.layer,
         parts.target,
         parts.when,
         repeat,

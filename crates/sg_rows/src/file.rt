@@ -8,11 +8,9 @@ use crate::entry::{Entry, Keyed};
 use crate::fault::RowFault;
 use crate::part;
 use serde_json::{Value, json};
+use sg_base::limits::MAX_FILE_LEN;
 use sg_base::{Listed, MediaId};
 use std::alloc::{AllocError, Global};
-
-/// The bytes of the largest file.
-const LENGTH_LIMIT: u32 = 67_108_864;
 
 #[tactic(auto, unfolding(crate::specs::Reading::file_at))]
 impl Entry for Listed {
@@ -52,13 +50,13 @@ impl Keyed for Listed {
     }
 }
 
-/// A length of 1 byte to the limit.
+/// A length of at least a byte, and of no more than a file may have.
 fn file_length(length: u32) -> Result<u32, RowFault>
     ensures gives { Gives (λ n. n) result (file_length length) }
     ensures some { IfOk result (λ n. 1 ≤ n) }
-    ensures few { IfOk result (λ n. n ≤ 67108864) }
+    ensures few { IfOk result (λ n. n ≤ MAX_FILE_LEN) }
 {
-    if length > LENGTH_LIMIT || length == 0 {
+    if length as u64 > MAX_FILE_LEN || length == 0 {
         Err(RowFault::Shape)
     } else {
         Ok(length)

@@ -12,7 +12,6 @@ pub use entry::{Entry, Keyed, read_list, write_list};
 pub use event::{EventParts, make_event, read_event_parts, write_target, write_when};
 pub use fault::RowFault;
 pub use form::Form;
-pub use kind::{Kind, LimitName};
 pub use repeat::write_repeat;
 pub use zone::{read_zone, write_zone};
 
@@ -24,7 +23,6 @@ mod fault;
 mod file;
 mod form;
 mod ids;
-mod kind;
 mod layout;
 pub mod part;
 mod repeat;

@@ -117,6 +117,7 @@ fn unit_name(unit: Unit) -> &'static str
         Unit::Day => "day",
         Unit::Week => "week",
         Unit::Month => "month",
+        Unit::MonthWeekday => "month-weekday",
         Unit::Year => "year",
     }
 }

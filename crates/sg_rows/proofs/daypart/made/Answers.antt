@@ -1,16 +1,28 @@
 use Rattle.std.proofs.Common.{◌≡◌, refl, rules}
-use Rattle.sg_rows.proofs.DaypartLemmas.{order_made, row_made, valid_made}
+use Rattle.sg_rows.proofs.DaypartLemmas.{Made, row_made, valid_made}
 use Rattle.sg_rows.proofs.daypart.made.Goals as goal
 
 pub returns-in-Ok-clause-gives : goal.returns-in-Ok-clause-gives
 returns-in-Ok-clause-gives c =
     let made = c.in-Ok.ensures.made in
-    let order = order_made c.args.window c.args.exceptions.items c.in-Ok.daypart made.0 c.in-Ok.ensures.one_order in
-    rw (made.0, row_made (record { 0 = c.args.id }) c.args.window c.args.exceptions.items c.in-Ok.daypart made.1 made.2 order) refl
+    let is : Made (record { 0 = c.args.id }) c.args.window c.args.exceptions.items c.args.dates.items c.in-Ok.daypart = record {
+      none = made.0;
+      named = made.1;
+      window = made.2;
+      exceptions = c.in-Ok.ensures.one_order;
+      dates = c.in-Ok.ensures.one_order_of_dates;
+    } in
+    rw (made.0, row_made (record { 0 = c.args.id }) c.args.window c.args.exceptions.items c.args.dates.items c.in-Ok.daypart is) refl
 
 pub returns-in-Ok-clause-sound : goal.returns-in-Ok-clause-sound
 returns-in-Ok-clause-sound c =
     let made = c.in-Ok.ensures.made in
-    let order = order_made c.args.window c.args.exceptions.items c.in-Ok.daypart made.0 c.in-Ok.ensures.one_order in
-    valid_made (record { 0 = c.args.id }) c.args.window c.args.exceptions.items c.in-Ok.daypart
-    c.requires.id c.requires.window c.requires.exceptions made.1 made.2 order (search rules)
+    let is : Made (record { 0 = c.args.id }) c.args.window c.args.exceptions.items c.args.dates.items c.in-Ok.daypart = record {
+      none = made.0;
+      named = made.1;
+      window = made.2;
+      exceptions = c.in-Ok.ensures.one_order;
+      dates = c.in-Ok.ensures.one_order_of_dates;
+    } in
+    valid_made (record { 0 = c.args.id }) c.args.window c.args.exceptions.items c.args.dates.items c.in-Ok.daypart is
+    c.requires.id c.requires.window c.requires.exceptions c.requires.none (search rules)
