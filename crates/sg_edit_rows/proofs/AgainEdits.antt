@@ -6,13 +6,14 @@ use Rattle.sg_base.specs.declared.ids.DisplayId.{DisplayId}
 use Rattle.sg_rows.specs.declared.form.Form.TheVariants.{Edit}
 use Rattle.sg_rows.specs.Rows.{IsEventRow}
 use Rattle.sg_rows.specs.Reading.{parts_at}
-use Rattle.sg_edit_rows.specs.declared.row.Row.{Row}
-use Rattle.sg_edit_rows.specs.declared.row.Row.TheVariants as row
-use Rattle.sg_edit_rows.specs.declared.display.DisplayRow.{DisplayRow}
-use Rattle.sg_edit_rows.specs.declared.scheduled.EventRow.{EventRow as ScheduledRow}
+use Rattle.sg_base.specs.declared.row.Row.{Row}
+use Rattle.sg_base.specs.declared.row.Row.TheVariants as row
+use Rattle.sg_base.specs.declared.row.DisplayRow.{DisplayRow}
+use Rattle.sg_base.specs.declared.row.EventRow.{EventRow}
 use Rattle.sg_rows.specs.Text.{list_of}
 use Rattle.sg_rows.specs.Ids.{IsGroup, IsDisplayId, group_id_json, group_id_at, display_id_json, display_id_at}
-use Rattle.sg_edit_rows.specs.EditRows.{IsDisplay, IsScheduled, IsRow, AreFew, few_at, group_json, group_at, display_json, display_at, scheduled_json, scheduled_at, kind_of, row_json, row_at}
+use Rattle.sg_edit_rows.specs.EditRows.{IsDisplay, IsScheduled, IsRow, AreFew, few_at, group_json, group_at, display_json, display_at, scheduled_json, scheduled_at, row_json, row_at}
+use Rattle.sg_base.specs.Rows.{kind_of}
 use Rattle.sg_rows.proofs.AgainRows.{list_again, id_again, layout_again, file_again}
 use Rattle.sg_rows.proofs.AgainSchedules.{campaign_again, daypart_again, zone_again, repeat_now, repeat_again, target_again, when_again, made_event_again}
 
@@ -40,11 +41,12 @@ display_again d h =
     rw (id_again d.default.0 h.default, groups_again d.groups h.groups h.few, id_again d.id.0 h.id, h.key, zone_again d.zone h.zone) refl
 
 -- the seven members that an event of a manifest has too
-parts_again_in_edit : (e : ScheduledRow) → IsEventRow e.event → parts_at Edit (scheduled_json e) ≡ Ok e.event
+parts_again_in_edit : (e : EventRow) → IsEventRow e.event → parts_at Edit (scheduled_json e) ≡ Ok e.event
 unfolding parts_at
 parts_again_in_edit e h =
     rw (
-      repeat_now e.event.repeat,
+      repeat_now e.event.repeat h.repeat,
+      ← h.layer,
       id_again e.event.id.0 h.id,
       lt-ltb e.event.order (2 ^ 32) h.order,
       lt-ltb e.event.priority (2 ^ 32) h.priority,
@@ -54,7 +56,7 @@ parts_again_in_edit e h =
       when_again e.event.when h.when,
     ) refl
 
-scheduled_again : (e : ScheduledRow) → IsScheduled e → scheduled_at (scheduled_json e) ≡ Ok e
+scheduled_again : (e : EventRow) → IsScheduled e → scheduled_at (scheduled_json e) ≡ Ok e
 unfolding scheduled_at
 scheduled_again e h =
     rw (

@@ -3,16 +3,17 @@
 use Rattle.std.specs.Prelude.{ℕ, ◌+◌, ◌<◌, ◌&&◌, ◌||◌, true, nat_lt, nat_le, Bool, List, [], ◌∷◌, map, codes, length, IsTrue, Result, Ok, Err}
 use Rattle.std.specs.List.{AllByRecursion, list_all}
 use Rattle.serde_json.specs.Data.{Data, string, object, member, no_members}
+use Rattle.sg_base.specs.declared.limits.TheConstants.{MAX_FEW, MAX_KEY}
 use Rattle.sg_base.specs.declared.ids.GroupId.{GroupId}
 use Rattle.sg_rows.specs.declared.fault.RowFault.{RowFault}
 use Rattle.sg_rows.specs.declared.fault.RowFault.TheVariants.{Shape}
 use Rattle.sg_rows.specs.declared.form.Form.TheVariants.{Edit}
-use Rattle.sg_rows.specs.declared.kind.Kind.{Kind}
-use Rattle.sg_rows.specs.declared.kind.Kind.TheVariants as kind
-use Rattle.sg_edit_rows.specs.declared.row.Row.{Row}
-use Rattle.sg_edit_rows.specs.declared.row.Row.TheVariants as row
-use Rattle.sg_edit_rows.specs.declared.display.DisplayRow.{DisplayRow}
-use Rattle.sg_edit_rows.specs.declared.scheduled.EventRow.{EventRow as ScheduledRow}
+use Rattle.sg_base.specs.declared.kind.Kind.{Kind}
+use Rattle.sg_base.specs.declared.kind.Kind.TheVariants as kind
+use Rattle.sg_base.specs.declared.row.Row.{Row}
+use Rattle.sg_base.specs.declared.row.Row.TheVariants as row
+use Rattle.sg_base.specs.declared.row.DisplayRow.{DisplayRow}
+use Rattle.sg_base.specs.declared.row.EventRow.{EventRow}
 use Rattle.sg_rows.specs.Faults.{◌>>=◌, needs}
 use Rattle.sg_rows.specs.Ids.{IsGroup, IsDisplayId, group_id_json, display_id_json, group_id_at, display_id_at}
 use Rattle.sg_rows.specs.Parts.{exactly, member_at, id_at, text_at, list_at}
@@ -28,9 +29,9 @@ abbrev pub rise_from : ℕ → List ℕ → Bool
 rise_from last [] = true
 rise_from last (n ∷ ns) = nat_lt last n && rise_from n ns
 
--- at most 32 ids that ascend
+-- ids that ascend, no more than a display or an event may have
 abbrev pub are_few : {A : Type 0} → (A → ℕ) → List A → Bool
-are_few key ids = nat_le (length ids) 32 && rise_from 0 (map key ids)
+are_few key ids = nat_le (length ids) MAX_FEW && rise_from 0 (map key ids)
 
 abbrev pub AreFew : {A : Type 0} → (A → ℕ) → List A → Type 0
 AreFew key ids = IsTrue (are_few key ids)
@@ -55,9 +56,9 @@ group_at d = do
 abbrev pub is_key_byte : ℕ → Bool
 is_key_byte b = (nat_le 48 b && nat_le b 57) || (nat_le 65 b && nat_le b 90) || (nat_le 97 b && nat_le b 122)
 
--- 1 to 64 of them
+-- a key: one of them at least
 abbrev pub is_key : List ℕ → Bool
-is_key bytes = (nat_lt 0 (length bytes) && nat_lt (length bytes) 65) && list_all is_key_byte bytes
+is_key bytes = (nat_lt 0 (length bytes) && nat_le (length bytes) MAX_KEY) && list_all is_key_byte bytes
 
 abbrev pub key_at : Data → Result (List ℕ) RowFault
 key_at d = text_at d >>= (λ text. needs (is_key text) Shape >>= (λ key. Ok text))
@@ -91,7 +92,7 @@ display_at d = do
 
 -- ---- scheduled events
 
-abbrev pub scheduled_json : ScheduledRow → Data
+abbrev pub scheduled_json : EventRow → Data
 scheduled_json e = object
     (member (codes "displays") (list_of display_id_json e.displays)
     (member (codes "groups") (list_of group_id_json e.groups)
@@ -103,7 +104,7 @@ scheduled_json e = object
     (member (codes "target") (target_json e.event.target)
     (member (codes "when") (when_json e.event.when) no_members)))))))))
 
-pub record IsScheduled (e : ScheduledRow) : Type 0 where
+pub record IsScheduled (e : EventRow) : Type 0 where
   pub event : IsEventRow e.event
   pub displays : AllByRecursion IsDisplayId e.displays
   pub few_displays : AreFew (λ d. d.0) e.displays
@@ -111,7 +112,7 @@ pub record IsScheduled (e : ScheduledRow) : Type 0 where
   pub few_groups : AreFew (λ g. g.0) e.groups
   pub some : 0 < length e.displays + length e.groups
 
-unfoldable pub scheduled_at : Data → Result ScheduledRow RowFault
+unfoldable pub scheduled_at : Data → Result EventRow RowFault
 scheduled_at d = do
   parts ← parts_at Edit d
   displays ← member_at (few_at display_id_at (λ d. d.0)) (codes "displays") d
@@ -143,15 +144,6 @@ IsRow (row.Daypart d) = IsDaypartRow d
 IsRow (row.Group g) = IsGroup g
 IsRow (row.Display d) = IsDisplay d
 IsRow (row.Event e) = IsScheduled e
-
-abbrev pub kind_of : Row → Kind
-kind_of (row.Media f) = kind.Media
-kind_of (row.Layout l) = kind.Layout
-kind_of (row.Campaign c) = kind.Campaign
-kind_of (row.Daypart d) = kind.Daypart
-kind_of (row.Group g) = kind.Group
-kind_of (row.Display d) = kind.Display
-kind_of (row.Event e) = kind.Event
 
 -- no row is of the kind of clients
 abbrev pub row_at : Kind → Data → Result Row RowFault

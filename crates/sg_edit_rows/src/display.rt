@@ -8,25 +8,10 @@ ghost use Rattle.sg_edit_rows.specs.EditRows.{display_at, display_json, key_at, 
 
 use crate::group::read_few;
 use serde_json::{Value, json};
-use sg_base::{DisplayId, GroupId, LayoutId, Rows, ZoneRule};
+use sg_base::limits::MAX_KEY;
+use sg_base::{DisplayId, DisplayRow, LayoutId, Rows};
 use sg_rows::{RowFault, part, read_zone, write_list, write_zone};
 use std::alloc::{AllocError, Global};
-
-/// The most letters and digits of a key.
-const KEY_LIMIT: usize = 64;
-
-/// A display: the layout that it shows by default, its groups by ascending id, the key by which it is known, and its
-/// zone.
-#[derive(Debug, Drop)]
-pub struct DisplayRow {
-    pub id: DisplayId,
-    pub default: LayoutId,
-    /// At most 32.
-    pub groups: Rows<GroupId>,
-    /// 1 to 64 letters and digits of ASCII.
-    pub key: Rows<u8>,
-    pub zone: ZoneRule,
-}
 
 /// Whether a byte is a letter or a digit of ASCII.
 fn is_key_byte(byte: u8) -> bool
@@ -41,11 +26,11 @@ fn are_key_bytes(bytes: &[u8]) -> bool
     bytes.iter().all(|byte| is_key_byte(*byte))
 }
 
-/// Whether bytes are 1 to 64 letters and digits of ASCII.
+/// Whether bytes are a key: letters and digits of ASCII, one at least.
 fn is_key(bytes: &[u8]) -> bool
     ensures { result ≡ is_key bytes.now }
 {
-    if bytes.is_empty() || bytes.len() > KEY_LIMIT {
+    if bytes.is_empty() || bytes.len() > MAX_KEY {
         return false;
     }
     are_key_bytes(bytes)

@@ -8,12 +8,10 @@ ghost use Rattle.sg_edit_rows.specs.EditRows.{group_at, group_json, rise_from, f
 ghost use Rattle.sg_rows.specs.Ids.{IsGroup};
 
 use serde_json::{Value, json};
+use sg_base::limits::MAX_FEW;
 use sg_base::{GroupId, Rows};
 use sg_rows::{Keyed, RowFault, part, read_list};
 use std::alloc::{AllocError, Global};
-
-/// The most groups of a display, groups of an event and displays of an event.
-const IDS_LIMIT: usize = 32;
 
 /// Whether ids ascend, from 1 on.
 fn rise<T: Keyed>(rows: &[T]) -> bool
@@ -30,14 +28,14 @@ fn rise<T: Keyed>(rows: &[T]) -> bool
     true
 }
 
-/// At most 32 ids that ascend.
+/// Ids that ascend, no more than a display or an event may have.
 pub(crate) fn read_few<T: Keyed>(alloc: Global, value: &Value) -> Result<Rows<T>, RowFault>
     ensures gives { Gives (λ ids. ids) result (few_at T.at T.key (view value.now)) }
     ensures sound { IfOk result (λ ids. AllByRecursion T.valid ids) }
     ensures few { IfOk result (AreFew T.key) }
 {
     let ids = read_list(alloc, value)?;
-    if ids.len() > IDS_LIMIT || !rise(ids.as_slice()) {
+    if ids.len() > MAX_FEW || !rise(ids.as_slice()) {
         return Err(RowFault::Shape);
     }
     Ok(Rows::from_vec(ids))

@@ -3,47 +3,17 @@
 ghost use Rattle.std.specs.Prelude.{◌≡◌, ◌≢◌, IfOk, Ok};
 ghost use Rattle.serde_json.specs.View.{view};
 ghost use Rattle.sg_rows.specs.Faults.{Gives};
-ghost use Rattle.sg_edit_rows.specs.EditRows.{RowView, IsRow, kind_of, row_at, row_json};
-ghost use Rattle.sg_rows.specs.declared.kind.Kind.TheVariants.{Client};
+ghost use Rattle.sg_edit_rows.specs.EditRows.{RowView, IsRow, row_at, row_json};
+ghost use Rattle.sg_base.specs.Rows.{kind_of};
+ghost use Rattle.sg_base.specs.declared.kind.Kind.TheVariants.{Client};
 
-use crate::display::{DisplayRow, read_display, write_display};
+use crate::display::{read_display, write_display};
 use crate::group::{read_group, write_group};
-use crate::scheduled::{EventRow, read_scheduled, write_scheduled};
+use crate::scheduled::{read_scheduled, write_scheduled};
 use serde_json::Value;
-use sg_base::{Campaign, Daypart, GroupId, Layout, Listed};
-use sg_rows::{Entry, Kind, RowFault};
+use sg_base::{Campaign, Daypart, Kind, Layout, Listed, Row};
+use sg_rows::{Entry, RowFault};
 use std::alloc::{AllocError, Global};
-
-/// A row of the server.
-#[derive(Debug, Drop)]
-pub enum Row {
-    Media(Listed),
-    Layout(Layout),
-    Campaign(Campaign),
-    Daypart(Daypart),
-    Group(GroupId),
-    Display(DisplayRow),
-    Event(EventRow),
-}
-
-impl Row {
-    ghost use Rattle.sg_edit_rows.specs.EditRows.{kind_of};
-
-    /// Its kind, never `Client`.
-    pub fn kind(&self) -> Kind
-        ensures { result ≡ kind_of self.now }
-    {
-        match self {
-            Row::Media(_) => Kind::Media,
-            Row::Layout(_) => Kind::Layout,
-            Row::Campaign(_) => Kind::Campaign,
-            Row::Daypart(_) => Kind::Daypart,
-            Row::Group(_) => Kind::Group,
-            Row::Display(_) => Kind::Display,
-            Row::Event(_) => Kind::Event,
-        }
-    }
-}
 
 /// The row of a kind that JSON says. It is refused with the first of its faults: `Later`, then `Shape`, then that of
 /// its constructor. `NoReplace` and `Incomplete` never come.

@@ -7,22 +7,12 @@ ghost use Rattle.sg_edit_rows.specs.EditRows.{scheduled_at, scheduled_json, IsSc
 
 use crate::group::read_few;
 use serde_json::{Value, json};
-use sg_base::{DisplayId, Event, GroupId, Rows};
+use sg_base::EventRow;
 use sg_rows::{
     Form, RowFault, make_event, part, read_event_parts, write_list, write_repeat, write_target,
     write_when,
 };
 use std::alloc::{AllocError, Global};
-
-/// An event with the displays and the groups that it is for, at least one in all, each by ascending id.
-#[derive(Debug, Drop)]
-pub struct EventRow {
-    pub event: Event,
-    /// At most 32.
-    pub displays: Rows<DisplayId>,
-    /// At most 32.
-    pub groups: Rows<GroupId>,
-}
 
 #[tactic(auto, unfolding(crate::specs::EditRows::scheduled_at))]
 pub(crate) fn read_scheduled(alloc: Global, value: &Value) -> Result<EventRow, RowFault>

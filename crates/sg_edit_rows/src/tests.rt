@@ -1,16 +1,16 @@
 //! Rows of each kind that are read and written again, and rows that are refused.
 
 ghost use Rattle.std.specs.Prelude.{◌≢◌};
-ghost use Rattle.sg_rows.specs.declared.kind.Kind.TheVariants.{Client};
+ghost use Rattle.sg_base.specs.declared.kind.Kind.TheVariants.{Client};
 
-use crate::{Row, read_row, write_row};
+use crate::{read_row, write_row};
 use serde_json::Value;
 use sg_base::{
-    CampaignId, DaypartFault, DisplayId, EventFault, GroupId, LayoutFault, LayoutId, MediaId,
-    RepeatFault, Target, Window, ZoneRule,
+    CampaignId, DaypartFault, DisplayId, EventFault, GroupId, Kind, LayoutFault, LayoutId, MediaId,
+    RepeatFault, Row, Target, Window, ZoneRule,
 };
 use sg_calendar::ZoneFault;
-use sg_rows::{Kind, RowFault};
+use sg_rows::RowFault;
 use std::alloc::Global;
 use std::process::Abort;
 use std::test::Fail;
