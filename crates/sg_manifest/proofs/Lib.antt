@@ -7,4 +7,3 @@ pub mod JsonLemmas
 pub mod TextLemmas
 pub mod WholeAgain
 pub mod ReadLemmas
-pub mod PlaceLemmas

@@ -10,8 +10,8 @@ use Rattle.serde_json.specs.View.{view, items_of, items_view}
 use Rattle.serde_json.specs.declared.value.Value.{Value}
 use Rattle.sg_base.proofs.DoubleLemmas.{same}
 use Rattle.sg_rows.specs.declared.fault.RowFault.{RowFault}
-use Rattle.sg_rows.specs.declared.kind.Kind.{Kind}
-use Rattle.sg_rows.specs.declared.kind.LimitName.{LimitName}
+use Rattle.sg_base.specs.declared.kind.Kind.{Kind}
+use Rattle.sg_base.specs.declared.kind.LimitName.{LimitName}
 use Rattle.sg_rows.specs.Faults.{◌>>=◌, needs}
 use Rattle.sg_rows.specs.Parts.{count_of_items, member_at, items_at, with_front}
 use Rattle.sg_manifest.specs.declared.fault.ManifestFault.{ManifestFault}

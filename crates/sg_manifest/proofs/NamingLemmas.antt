@@ -12,8 +12,8 @@ use Rattle.sg_base.specs.declared.event.Target.{Target}
 use Rattle.sg_base.specs.declared.event.Target.TheVariants as target
 use Rattle.sg_base.specs.Faults.{first_of, first_in}
 use Rattle.sg_base.specs.Layout.{LayoutRow}
-use Rattle.sg_rows.specs.declared.kind.Kind.{Kind}
-use Rattle.sg_rows.specs.declared.kind.Kind.TheVariants.{Media, Layout, Campaign, Daypart}
+use Rattle.sg_base.specs.declared.kind.Kind.{Kind}
+use Rattle.sg_base.specs.declared.kind.Kind.TheVariants.{Media, Layout, Campaign, Daypart}
 use Rattle.sg_manifest.specs.declared.fault.ManifestFault.{ManifestFault}
 use Rattle.sg_manifest.specs.declared.fault.ManifestFault.TheVariants.{Dangling}
 use Rattle.sg_manifest.specs.Snapshot.{SnapshotRow, layout_ids, campaign_ids, daypart_ids, file_ids}

@@ -9,6 +9,7 @@ use Rattle.std.specs.Prelude.{Option, Some, None, if◌then◌else◌}
 use Rattle.std.specs.Str.{bytes_eq}
 use Rattle.std.specs.List.{AllByRecursion, IsDistinct, Contains, list_any}
 use Rattle.std.specs.List.Sorted.{IsPermutation}
+use Rattle.sg_base.specs.declared.limits.TheConstants.{MANIFEST_FILES, MANIFEST_LAYOUTS, MANIFEST_CAMPAIGNS, MANIFEST_DAYPARTS, MANIFEST_EVENTS, MANIFEST_TEXT}
 use Rattle.sg_base.specs.declared.layout.Region.{Region}
 use Rattle.sg_base.specs.declared.campaign.Campaign.{Campaign as CampaignRow}
 use Rattle.sg_base.specs.declared.event.When.{When}
@@ -19,8 +20,8 @@ use Rattle.sg_base.specs.Faults.{first_of, first_in}
 use Rattle.sg_base.specs.Layout.{LayoutRow}
 use Rattle.sg_base.proofs.FaultLemmas.{first_none}
 use Rattle.sg_base.proofs.DoubleLemmas.{same}
-use Rattle.sg_rows.specs.declared.kind.Kind.{Kind}
-use Rattle.sg_rows.specs.declared.kind.Kind.TheVariants.{Media, Layout, Campaign, Daypart}
+use Rattle.sg_base.specs.declared.kind.Kind.{Kind}
+use Rattle.sg_base.specs.declared.kind.Kind.TheVariants.{Media, Layout, Campaign, Daypart}
 use Rattle.sg_rows.specs.Rows.{IsCampaignRow, IsDaypartRow, IsEventRow, IsLayoutRow, IsListed}
 use Rattle.sg_rows.specs.Order.{sorted_by}
 use Rattle.sg_rows.proofs.OrderLemmas.{all_sorted, sorted_rises, sorted_moves}
@@ -119,11 +120,11 @@ snapshot_valid s h e = record {
   };
   named = named_there s e;
   few = record {
-    files = few_sorted (λ f. f.media.0) s.files 512 h.few.files;
-    layouts = few_sorted (λ l. l.id.0) s.layouts 512 h.few.layouts;
-    campaigns = few_sorted (λ c. c.id.0) s.campaigns 256 h.few.campaigns;
-    dayparts = few_sorted (λ d. d.id.0) s.dayparts 64 h.few.dayparts;
-    events = few_sorted (λ e. e.id.0) s.events 1024 h.few.events;
+    files = few_sorted (λ f. f.media.0) s.files MANIFEST_FILES h.few.files;
+    layouts = few_sorted (λ l. l.id.0) s.layouts MANIFEST_LAYOUTS h.few.layouts;
+    campaigns = few_sorted (λ c. c.id.0) s.campaigns MANIFEST_CAMPAIGNS h.few.campaigns;
+    dayparts = few_sorted (λ d. d.id.0) s.dayparts MANIFEST_DAYPARTS h.few.dayparts;
+    events = few_sorted (λ e. e.id.0) s.events MANIFEST_EVENTS h.few.events;
   };
 }
 
@@ -201,12 +202,12 @@ rows_again : (s : SnapshotRow) → IsSnapshot s → rows_of (text s) ≡ Ok s
 unfolding rows_of
 rows_again s h = rw (json_again s h) (draft_again s h)
 
-pub manifest_again : (bytes : List ℕ) (s : SnapshotRow) → IsSnapshot s → length bytes ≤ 1048576 → bytes ≡ text s → manifest_at bytes ≡ Ok s
+pub manifest_again : (bytes : List ℕ) (s : SnapshotRow) → IsSnapshot s → length bytes ≤ MANIFEST_TEXT → bytes ≡ text s → manifest_at bytes ≡ Ok s
 unfolding manifest_at
 manifest_again bytes s h short e =
     rw (
       ap rows_of e ∙ rows_again s h,
       dangling_none s h.named,
-      le-leb (length bytes) 1048576 short,
+      le-leb (length bytes) MANIFEST_TEXT short,
       ordered_again s h,
     ) (canonical_same bytes s e)

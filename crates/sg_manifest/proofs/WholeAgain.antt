@@ -4,11 +4,12 @@ use Rattle.std.specs.Prelude.{Some, None, Option}
 use Rattle.std.specs.Str.{is_utf8, bytes_eq}
 use Rattle.std.specs.List.{AllByRecursion, IsDistinct}
 use Rattle.std.specs.List.Sorted.{IsStrictlyIncreasing}
+use Rattle.sg_base.specs.declared.limits.TheConstants.{MANIFEST_FILES, MANIFEST_LAYOUTS, MANIFEST_CAMPAIGNS, MANIFEST_DAYPARTS, MANIFEST_EVENTS}
 use Rattle.serde_json.specs.Data.{Data}
 use Rattle.serde_json.specs.Read.{read}
 use Rattle.serde_json.specs.Written.{has_float}
 use Rattle.sg_base.proofs.DoubleLemmas.{same}
-use Rattle.sg_rows.specs.declared.kind.Kind.TheVariants.{Media, Layout, Campaign, Daypart, Event}
+use Rattle.sg_base.specs.declared.kind.Kind.TheVariants.{Media, Layout, Campaign, Daypart, Event}
 use Rattle.sg_rows.specs.Rows.{IsCampaignRow, IsDaypartRow, IsEventRow, IsLayoutRow, IsListed}
 use Rattle.sg_rows.specs.Text.{layout_json, file_json, campaign_json, daypart_json, event_json}
 use Rattle.sg_rows.specs.Order.{sorted_by}
@@ -70,19 +71,19 @@ draft_again s h =
       members_again s h,
       zone_again s.zone h.zone,
       counted_items file_json s.files,
-      le-leb (length s.files) 512 h.few.files,
+      le-leb (length s.files) MANIFEST_FILES h.few.files,
       list_again file_json file_at IsListed file_again 1 Media (λ f. f.media.0) s.files h.rows.files (distinct (λ f. f.media.0) s.files h.order.files),
       counted_items layout_json s.layouts,
-      le-leb (length s.layouts) 512 h.few.layouts,
+      le-leb (length s.layouts) MANIFEST_LAYOUTS h.few.layouts,
       list_again layout_json layout_at IsLayoutRow layout_again 2 Layout (λ l. l.id.0) s.layouts h.rows.layouts (distinct (λ l. l.id.0) s.layouts h.order.layouts),
       counted_items campaign_json s.campaigns,
-      le-leb (length s.campaigns) 256 h.few.campaigns,
+      le-leb (length s.campaigns) MANIFEST_CAMPAIGNS h.few.campaigns,
       list_again campaign_json campaign_at IsCampaignRow campaign_again 3 Campaign (λ c. c.id.0) s.campaigns h.rows.campaigns (distinct (λ c. c.id.0) s.campaigns h.order.campaigns),
       counted_items daypart_json s.dayparts,
-      le-leb (length s.dayparts) 64 h.few.dayparts,
+      le-leb (length s.dayparts) MANIFEST_DAYPARTS h.few.dayparts,
       list_again daypart_json daypart_at IsDaypartRow daypart_again 4 Daypart (λ d. d.id.0) s.dayparts h.rows.dayparts (distinct (λ d. d.id.0) s.dayparts h.order.dayparts),
       counted_items event_json s.events,
-      le-leb (length s.events) 1024 h.few.events,
+      le-leb (length s.events) MANIFEST_EVENTS h.few.events,
       list_again event_json event_at IsEventRow event_again 5 Event (λ e. e.id.0) s.events h.rows.events (distinct (λ e. e.id.0) s.events h.order.events),
     ) refl
 

@@ -4,4 +4,3 @@ pub mod Sample
 pub mod Faults
 pub mod Reading
 pub mod Fitting
-pub mod Place

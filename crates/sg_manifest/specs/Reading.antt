@@ -5,6 +5,7 @@ use Rattle.std.specs.Str.{is_utf8, bytes_eq}
 use Rattle.serde_json.specs.Data.{Data, Items, no_items, item}
 use Rattle.serde_json.specs.Find.{get}
 use Rattle.serde_json.specs.Read.{read}
+use Rattle.sg_base.specs.declared.limits.TheConstants.{MANIFEST_FILES, MANIFEST_LAYOUTS, MANIFEST_CAMPAIGNS, MANIFEST_DAYPARTS, MANIFEST_EVENTS, MANIFEST_TEXT}
 use Rattle.sg_base.specs.declared.ids.LayoutId.{LayoutId}
 use Rattle.sg_base.specs.declared.layout.Region.{Region}
 use Rattle.sg_base.specs.declared.campaign.Campaign.{Campaign as CampaignRow}
@@ -15,13 +16,13 @@ use Rattle.sg_base.specs.declared.event.Target.TheVariants as target
 use Rattle.sg_base.specs.declared.zone.ZoneRule.{ZoneRule}
 use Rattle.sg_base.specs.Faults.{first_of, first_in}
 use Rattle.sg_base.specs.Layout.{LayoutRow}
-use Rattle.sg_base.specs.Event.{EventRow}
+use Rattle.sg_base.specs.Event.{EventValue}
 use Rattle.sg_rows.specs.declared.fault.RowFault.{RowFault}
 use Rattle.sg_rows.specs.declared.fault.RowFault.TheVariants.{Shape}
-use Rattle.sg_rows.specs.declared.kind.Kind.{Kind}
-use Rattle.sg_rows.specs.declared.kind.Kind.TheVariants.{Media, Layout, Campaign, Daypart, Event}
-use Rattle.sg_rows.specs.declared.kind.LimitName.{LimitName}
-use Rattle.sg_rows.specs.declared.kind.LimitName.TheVariants.{Files, Layouts, Campaigns, Dayparts, Events, Text}
+use Rattle.sg_base.specs.declared.kind.Kind.{Kind}
+use Rattle.sg_base.specs.declared.kind.Kind.TheVariants.{Media, Layout, Campaign, Daypart, Event}
+use Rattle.sg_base.specs.declared.kind.LimitName.{LimitName}
+use Rattle.sg_base.specs.declared.kind.LimitName.TheVariants.{Files, Layouts, Campaigns, Dayparts, Events, Text}
 use Rattle.sg_rows.specs.Faults.{◌>>=◌, needs, wants}
 use Rattle.sg_rows.specs.Parts.{exactly, member_at, number_at, id_at, items_at, count_of_items}
 use Rattle.sg_rows.specs.Order.{sorted_by}
@@ -97,10 +98,10 @@ missing_daypart dayparts Always = None
 missing_daypart dayparts (Custom from to) = None
 missing_daypart dayparts (Named daypart date) = missing Daypart dayparts daypart.0
 
-abbrev pub missing_in_target : List ℕ → List ℕ → EventRow → Option ManifestFault
+abbrev pub missing_in_target : List ℕ → List ℕ → EventValue → Option ManifestFault
 missing_in_target layouts campaigns e = missing_target layouts campaigns e.target
 
-abbrev pub missing_in_when : List ℕ → EventRow → Option ManifestFault
+abbrev pub missing_in_when : List ℕ → EventValue → Option ManifestFault
 missing_in_when dayparts e = missing_daypart dayparts e.when
 
 -- the first that isn't there: the default layout, then the media of the layouts, the layouts of the campaigns, the
@@ -152,11 +153,11 @@ draft_at d = do
   version ← version_at d
   default ← in_entry 0 0 (members_at d)
   zone ← in_entry 0 0 (member_at zone_at (codes "zone") d)
-  files ← rows_at 1 Files 512 Media file_at (λ f. f.media.0) (codes "files") d
-  layouts ← rows_at 2 Layouts 512 Layout layout_at (λ l. l.id.0) (codes "layouts") d
-  campaigns ← rows_at 3 Campaigns 256 Campaign campaign_at (λ c. c.id.0) (codes "campaigns") d
-  dayparts ← rows_at 4 Dayparts 64 Daypart daypart_at (λ d. d.id.0) (codes "dayparts") d
-  events ← rows_at 5 Events 1024 Event event_at (λ e. e.id.0) (codes "events") d
+  files ← rows_at 1 Files MANIFEST_FILES Media file_at (λ f. f.media.0) (codes "files") d
+  layouts ← rows_at 2 Layouts MANIFEST_LAYOUTS Layout layout_at (λ l. l.id.0) (codes "layouts") d
+  campaigns ← rows_at 3 Campaigns MANIFEST_CAMPAIGNS Campaign campaign_at (λ c. c.id.0) (codes "campaigns") d
+  dayparts ← rows_at 4 Dayparts MANIFEST_DAYPARTS Daypart daypart_at (λ d. d.id.0) (codes "dayparts") d
+  events ← rows_at 5 Events MANIFEST_EVENTS Event event_at (λ e. e.id.0) (codes "events") d
   Ok (record { zone = zone; default = default; layouts = layouts; campaigns = campaigns; dayparts = dayparts; events = events; files = files })
 
 unfoldable pub rows_of : List ℕ → Result SnapshotRow ManifestFault
@@ -168,5 +169,5 @@ unfoldable pub manifest_at : List ℕ → Result SnapshotRow ManifestFault
 manifest_at bytes = do
   s ← rows_of bytes
   named ← none_of (dangling s)
-  short ← needs (nat_le (length bytes) 1048576) (Limit Text (length bytes))
+  short ← needs (nat_le (length bytes) MANIFEST_TEXT) (Limit Text (length bytes))
   canonical bytes (ordered s)

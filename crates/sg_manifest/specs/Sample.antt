@@ -9,19 +9,20 @@ use Rattle.sg_base.specs.declared.event.When.TheVariants.{Always, Custom, Named}
 use Rattle.sg_base.specs.declared.event.Target.TheVariants.{Layout, Campaign}
 use Rattle.sg_base.specs.declared.repeat.Unit.TheVariants.{Hour, Week}
 use Rattle.sg_base.specs.declared.zone.ZoneRule.TheVariants.{Posix}
-use Rattle.sg_base.specs.Event.{EventRow}
+use Rattle.sg_base.specs.Event.{EventValue}
 use Rattle.sg_manifest.specs.Snapshot.{SnapshotRow}
 use Rattle.sg_manifest.specs.Text.{text}
 
 unfoldable pub shown : ℕ → Item
 shown seconds = record { media = record { 0 = 7 }; seconds = seconds }
 
-unfoldable pub always : EventRow
-always = record { id = record { 0 = 1 }; target = Layout (record { 0 = 2 }); when = Always; repeat = None; order = 0; priority = 65535; share = 0 }
+unfoldable pub always : EventValue
+always = record { id = record { 0 = 1 }; layer = 0; target = Layout (record { 0 = 2 }); when = Always; repeat = None; order = 0; priority = 65535; share = 0 }
 
-unfoldable pub weekly : EventRow
+unfoldable pub weekly : EventValue
 weekly = record {
   id = record { 0 = 2 };
+  layer = 0;
   target = Campaign (record { 0 = 4 });
   when = Named (record { 0 = 9 }) 19723;
   repeat = Some (record { unit = Week; every = 2; days = 81; until = Some 19800 });
@@ -30,9 +31,10 @@ weekly = record {
   share = 0;
 }
 
-unfoldable pub hourly : EventRow
+unfoldable pub hourly : EventValue
 hourly = record {
   id = record { 0 = 3 };
+  layer = 0;
   target = Layout (record { 0 = 1 });
   when = Custom 1704067200 1704070800;
   repeat = Some (record { unit = Hour; every = 1; days = 0; until = None });
@@ -52,7 +54,7 @@ sample = record {
   })
       ∷ (record { id = record { 0 = 2 }; regions = (record { id = 1; items = shown 3600 ∷ [] }) ∷ [] }) ∷ [];
   campaigns = (record { id = record { 0 = 4 }; layouts = (record { 0 = 1 }) ∷ (record { 0 = 2 }) ∷ (record { 0 = 1 }) ∷ [] }) ∷ [];
-  dayparts = (record { id = record { 0 = 9 }; window = record { start = 28800; end = 0 }; exceptions = (6, record { start = 36000; end = 75600 }) ∷ [] }) ∷ [];
+  dayparts = (record { id = record { 0 = 9 }; window = record { start = 28800; end = 0 }; exceptions = (6, record { start = 36000; end = 75600 }) ∷ []; dates = [] }) ∷ [];
   events = always ∷ weekly ∷ hourly ∷ [];
   files = (record { media = record { 0 = 7 }; length = 3; md5 = 144 ∷ 1 ∷ 80 ∷ 152 ∷ 60 ∷ 210 ∷ 79 ∷ 176 ∷ 214 ∷ 150 ∷ 63 ∷ 125 ∷ 40 ∷ 225 ∷ 127 ∷ 114 ∷ [] }) ∷ [];
 }

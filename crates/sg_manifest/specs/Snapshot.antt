@@ -2,6 +2,7 @@
 use Rattle.std.specs.Prelude.{ℕ, ◌≤◌, List, length, map, Contains}
 use Rattle.std.specs.List.{AllByRecursion}
 use Rattle.std.specs.List.Sorted.{IsStrictlyIncreasing}
+use Rattle.sg_base.specs.declared.limits.TheConstants.{MANIFEST_FILES, MANIFEST_LAYOUTS, MANIFEST_CAMPAIGNS, MANIFEST_DAYPARTS, MANIFEST_EVENTS}
 use Rattle.sg_base.specs.declared.ids.LayoutId.{LayoutId}
 use Rattle.sg_base.specs.declared.layout.Region.{Region}
 use Rattle.sg_base.specs.declared.campaign.Campaign.{Campaign as CampaignRow}
@@ -13,7 +14,7 @@ use Rattle.sg_base.specs.declared.file.Listed.{Listed}
 use Rattle.sg_base.specs.declared.zone.ZoneRule.{ZoneRule}
 use Rattle.sg_base.specs.Layout.{LayoutRow}
 use Rattle.sg_base.specs.Daypart.{DaypartRow}
-use Rattle.sg_base.specs.Event.{EventRow}
+use Rattle.sg_base.specs.Event.{EventValue}
 use Rattle.sg_rows.specs.Zone.{IsZone}
 use Rattle.sg_rows.specs.Rows.{IsId, IsLayoutRow, IsCampaignRow, IsDaypartRow, IsEventRow, IsListed}
 
@@ -23,7 +24,7 @@ pub record SnapshotRow : Type 0 where
   pub layouts : List LayoutRow
   pub campaigns : List CampaignRow
   pub dayparts : List DaypartRow
-  pub events : List EventRow
+  pub events : List EventValue
   pub files : List Listed
 
 -- the ids of each list, as numbers
@@ -94,13 +95,13 @@ pub record HasAllNamed (s : SnapshotRow) : Type 0 where
   pub targets : AllByRecursion (λ e. HasTarget s e.target) s.events
   pub dayparts : AllByRecursion (λ e. HasDaypart s e.when) s.events
 
--- at most 512 files, 512 layouts, 256 campaigns, 64 dayparts and 1,024 events
+-- no list has more entries than a manifest may have
 pub record IsWithinLimits (s : SnapshotRow) : Type 0 where
-  pub files : length s.files ≤ 512
-  pub layouts : length s.layouts ≤ 512
-  pub campaigns : length s.campaigns ≤ 256
-  pub dayparts : length s.dayparts ≤ 64
-  pub events : length s.events ≤ 1024
+  pub files : length s.files ≤ MANIFEST_FILES
+  pub layouts : length s.layouts ≤ MANIFEST_LAYOUTS
+  pub campaigns : length s.campaigns ≤ MANIFEST_CAMPAIGNS
+  pub dayparts : length s.dayparts ≤ MANIFEST_DAYPARTS
+  pub events : length s.events ≤ MANIFEST_EVENTS
 
 -- a valid snapshot
 pub record IsSnapshot (s : SnapshotRow) : Type 0 where

@@ -3,7 +3,8 @@
 ghost use Rattle.std.specs.Prelude.{◌≡◌};
 ghost use Rattle.sg_manifest.specs.Faults.{fault_in};
 
-use sg_rows::{Kind, LimitName, RowFault};
+use sg_base::{Kind, LimitName};
+use sg_rows::RowFault;
 use std::alloc::{AllocError, AllocFailed};
 use thiserror::Error;
 

@@ -8,7 +8,6 @@
 #![tactic(auto)]
 
 pub use fault::ManifestFault;
-pub use place::place_among;
 pub use reading::{one_text, read};
 pub use snapshot::Snapshot;
 pub use text::write;
@@ -18,7 +17,6 @@ mod fault;
 mod lists;
 mod naming;
 mod order;
-mod place;
 mod reading;
 mod snapshot;
 mod text;

@@ -11,49 +11,53 @@ ghost use Rattle.sg_manifest.specs.Reading.{entries_at, rows_at};
 
 use crate::fault::{ManifestFault, in_entry};
 use serde_json::Value;
-use sg_rows::{Entry, Keyed, Kind, LimitName, RowFault, part};
+use sg_base::limits::{
+    MANIFEST_CAMPAIGNS, MANIFEST_DAYPARTS, MANIFEST_EVENTS, MANIFEST_FILES, MANIFEST_LAYOUTS,
+};
+use sg_base::{Kind, LimitName};
+use sg_rows::{Entry, Keyed, RowFault, part};
 use std::alloc::Global;
 
 /// How a list of a manifest is numbered, named and limited, and of which kind its rows are.
 pub(crate) struct ListRule {
     list: u32,
     name: LimitName,
-    most: usize,
+    most: u64,
     kind: Kind,
 }
 
 pub(crate) const FILES: ListRule = ListRule {
     list: 1,
     name: LimitName::Files,
-    most: 512,
+    most: MANIFEST_FILES,
     kind: Kind::Media,
 };
 
 pub(crate) const LAYOUTS: ListRule = ListRule {
     list: 2,
     name: LimitName::Layouts,
-    most: 512,
+    most: MANIFEST_LAYOUTS,
     kind: Kind::Layout,
 };
 
 pub(crate) const CAMPAIGNS: ListRule = ListRule {
     list: 3,
     name: LimitName::Campaigns,
-    most: 256,
+    most: MANIFEST_CAMPAIGNS,
     kind: Kind::Campaign,
 };
 
 pub(crate) const DAYPARTS: ListRule = ListRule {
     list: 4,
     name: LimitName::Dayparts,
-    most: 64,
+    most: MANIFEST_DAYPARTS,
     kind: Kind::Daypart,
 };
 
 pub(crate) const EVENTS: ListRule = ListRule {
     list: 5,
     name: LimitName::Events,
-    most: 1024,
+    most: MANIFEST_EVENTS,
     kind: Kind::Event,
 };
 
@@ -74,20 +78,20 @@ fn read_entry<T: Entry>(
     }
 }
 
-/// Whether an id was seen: at most 1,023 were.
+/// Whether an id was seen.
 fn is_seen(seen: &[u32], id: u32) -> bool
     ensures { result ≡ list_any (λ n. n == id) seen.now }
 {
     seen.iter().any(|other| *other == id)
 }
 
-/// Each entry of a list of at most 1,024, in one pass.
+/// Each entry of a list, in one pass. The longest list that a manifest may have is that of events.
 fn read_entries<T: Keyed>(
     alloc: Global,
     items: &[Value],
     rule: &ListRule,
 ) -> Result<Vec<T>, ManifestFault>
-    requires { length items.now ≤ 1024 }
+    requires { length items.now ≤ MANIFEST_EVENTS }
     ensures gives { Gives (λ v. v.items) result (entries_at rule.now.list rule.now.kind T.at T.key 0 [] (items_view items.now)) }
     ensures sound { IfOk result (λ v. AllByRecursion T.valid v.items) }
     ensures long { IfOk result (λ v. length v.items ≡ length items.now) }
@@ -123,14 +127,14 @@ pub(crate) fn read_rows<T: Keyed>(
     name: &str,
     rule: &ListRule,
 ) -> Result<Vec<T>, ManifestFault>
-    requires { rule.now.most ≤ 1024 }
+    requires { rule.now.most ≤ MANIFEST_EVENTS }
     ensures gives { Gives (λ v. v.items) result (rows_at rule.now.list rule.now.name rule.now.most rule.now.kind T.at T.key name.now (view value.now)) }
     ensures sound { IfOk result (λ v. AllByRecursion T.valid v.items) }
     ensures few { IfOk result (λ v. length v.items ≤ rule.now.most) }
     ensures apart { IfOk result (λ v. IsDistinct (same_number T.key) v.items) }
 {
     let items = member_items(value, name)?;
-    if items.len() > rule.most {
+    if items.len() as u64 > rule.most {
         return Err(ManifestFault::Limit {
             name: rule.name,
             count: items.len() as u64,

@@ -1,15 +1,14 @@
 //! Whether what rows name is there.
 
-ghost use Rattle.std.specs.Prelude.{◌≡◌, ◌==◌, map, IfOk, IsPermutation};
-ghost use Rattle.std.specs.List.{list_any};
+ghost use Rattle.std.specs.Prelude.{◌≡◌, map, IfOk, IsPermutation};
 ghost use Rattle.std.specs.List.Sorted.{IsNonDecreasing};
 ghost use Rattle.sg_base.specs.Faults.{first_in};
 ghost use Rattle.sg_manifest.specs.Reading.{missing as missing_of, missing_media, missing_file, missing_layout as layout_missing_of, missing_target as target_missing_of, missing_daypart as daypart_missing_of, missing_in_target, missing_in_when, dangling_by, dangling};
 
 use crate::fault::ManifestFault;
 use crate::snapshot::Draft;
-use sg_base::{Campaign, Daypart, Event, Layout, Listed, Region, Target, When};
-use sg_rows::{Keyed, Kind};
+use sg_base::{Campaign, Daypart, Event, Kind, Layout, Listed, Region, Target, When, index_of};
+use sg_rows::Keyed;
 use std::alloc::{AllocError, Global};
 
 /// The ids of rows, ascending.
@@ -25,23 +24,15 @@ fn ids_of<T: Keyed>(alloc: Global, rows: &[T]) -> Result<Vec<u32>, AllocError>
     Ok(ids)
 }
 
-/// Whether an id is among ascending ones, by halving.
-fn has(ids: &[u32], id: u32) -> bool
-    requires { IsNonDecreasing ids.now }
-    ensures { result ≡ list_any (λ n. n == id) ids.now }
-{
-    ids.binary_search(&id).is_ok()
-}
-
 /// The fault where a row of this id isn't among ascending ids.
+#[tactic(auto, using(crate::proofs::SearchLemmas::there, crate::proofs::SearchLemmas::not_there))]
 fn missing(kind: Kind, ids: &[u32], id: u32) -> Option<ManifestFault>
     requires { IsNonDecreasing ids.now }
     ensures { result ≡ missing_of kind ids.now id }
 {
-    if has(ids, id) {
-        None
-    } else {
-        Some(ManifestFault::Dangling { kind, id })
+    match index_of(ids, id) {
+        Some(_) => None,
+        None => Some(ManifestFault::Dangling { kind, id }),
     }
 }
 

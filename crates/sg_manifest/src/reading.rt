@@ -8,7 +8,7 @@ ghost use Rattle.sg_manifest.specs.Faults.{Gives};
 ghost use Rattle.sg_manifest.specs.Fitting.{IsDraft};
 ghost use Rattle.sg_manifest.specs.Reading.{json_at, rows_of, none_of, dangling, canonical, manifest_at};
 ghost use Rattle.sg_rows.specs.Faults.{needs};
-ghost use Rattle.sg_rows.specs.declared.kind.LimitName.TheVariants.{Text};
+ghost use Rattle.sg_base.specs.declared.kind.LimitName.TheVariants.{Text};
 ghost use Rattle.sg_manifest.specs.declared.fault.ManifestFault.TheVariants.{Limit};
 
 use crate::fault::ManifestFault;
@@ -16,11 +16,9 @@ use crate::naming::dangling;
 use crate::snapshot::{Draft, Snapshot};
 use crate::text::{first_difference, write};
 use serde_json::Value;
-use sg_rows::LimitName;
+use sg_base::LimitName;
+use sg_base::limits::MANIFEST_TEXT;
 use std::alloc::Global;
-
-/// The most bytes of a manifest's text.
-const TEXT_LIMIT: usize = 1_048_576;
 
 /// The JSON of bytes.
 #[tactic(auto, unfolding(crate::specs::Reading::json_at))]
@@ -74,10 +72,11 @@ fn nothing_missing(alloc: Global, draft: &Draft) -> Result<(), ManifestFault>
 
 /// The text isn't too long.
 fn short(bytes: &[u8]) -> Result<(), ManifestFault>
-    ensures gives { Gives (λ one. one) result (needs (nat_le (length bytes.now) 1048576) (Limit Text (length bytes.now))) }
-    ensures few { OnOk result (length bytes.now ≤ 1048576) }
+    ensures gives { Gives (λ one. one) result
+        (needs (nat_le (length bytes.now) MANIFEST_TEXT) (Limit Text (length bytes.now))) }
+    ensures few { OnOk result (length bytes.now ≤ MANIFEST_TEXT) }
 {
-    if bytes.len() > TEXT_LIMIT {
+    if bytes.len() as u64 > MANIFEST_TEXT {
         Err(ManifestFault::Limit {
             name: LimitName::Text,
             count: bytes.len() as u64,
@@ -91,7 +90,8 @@ fn short(bytes: &[u8]) -> Result<(), ManifestFault>
 #[tactic(auto, unfolding(crate::specs::Reading::manifest_at))]
 fn checked(alloc: Global, bytes: &[u8]) -> Result<Snapshot, ManifestFault>
     ensures exact { Gives (λ s. s) result (manifest_at bytes.now) }
-    ensures found { IfOk result (λ s. IsSnapshot s × (bytes.now ≡ text s) × (length bytes.now ≤ 1048576)) }
+    ensures found { IfOk result
+        (λ s. IsSnapshot s × (bytes.now ≡ text s) × (length bytes.now ≤ MANIFEST_TEXT)) }
 {
     let draft = rows(alloc, bytes)?;
     nothing_missing(alloc, &draft)?;
@@ -105,9 +105,11 @@ pub fn read(alloc: Global, bytes: &[u8]) -> Result<Snapshot, ManifestFault>
     // Which snapshot, or which fault with all its fields. A row's fault inside is never want of memory.
     ensures exact { Gives (λ s. s) result (manifest_at bytes.now) }
     // What is read is the valid snapshot whose text the bytes are. That it is valid is a fact of its type, too.
-    ensures found { IfOk result (λ s. IsSnapshot s × (bytes.now ≡ text s) × (length bytes.now ≤ 1048576)) }
+    ensures found { IfOk result
+        (λ s. IsSnapshot s × (bytes.now ≡ text s) × (length bytes.now ≤ MANIFEST_TEXT)) }
     // The text of each valid snapshot is read, unless memory runs out.
-    ensures only { (s : SnapshotRow) → IsSnapshot s → length bytes.now ≤ 1048576 → bytes.now ≡ text s → Gives (λ t. t) result (Ok s) }
+    ensures only { (s : SnapshotRow) → IsSnapshot s → length bytes.now ≤ MANIFEST_TEXT →
+        bytes.now ≡ text s → Gives (λ t. t) result (Ok s) }
 {
     checked(alloc, bytes)
 }

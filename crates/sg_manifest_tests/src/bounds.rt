@@ -3,9 +3,10 @@
 ghost use Rattle.std.specs.Prelude.{◌≤◌};
 
 use crate::texts::{PLAIN, edited};
-use sg_base::LayoutFault;
+use sg_base::limits::MANIFEST_EVENTS;
+use sg_base::{Kind, LayoutFault, LimitName};
 use sg_manifest::{ManifestFault, read};
-use sg_rows::{Kind, LimitName, RowFault};
+use sg_rows::RowFault;
 use std::alloc::Global;
 use std::process::Abort;
 use std::test::Fail;
@@ -160,7 +161,7 @@ fn expect_limit(
     number: u32,
 ) -> Result<(), Fail>
     requires some { there ≤ most }
-    requires few { most ≤ 1024 }
+    requires few { most ≤ MANIFEST_EVENTS }
 {
     let full = crowded(alloc, list, there, most - there)?;
     let shape = ManifestFault::BadField {

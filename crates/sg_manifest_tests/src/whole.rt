@@ -1,9 +1,10 @@
 //! Manifests that are read, and a few that are refused.
 
 use crate::texts::{BUSY, PLAIN, edited};
-use sg_base::{CampaignId, DaypartId, LayoutId, Target, Unit, When, Window, ZoneRule};
-use sg_manifest::{ManifestFault, place_among, read, write};
-use sg_rows::{Kind, LimitName};
+use sg_base::{
+    CampaignId, DaypartId, Kind, LayoutId, LimitName, Target, Unit, When, Window, ZoneRule,
+};
+use sg_manifest::{ManifestFault, read, write};
 use std::alloc::{AllocError, Global};
 use std::test::Fail;
 
@@ -209,20 +210,4 @@ fn names(rt: HostRuntime) -> Result<(), Fail> {
         "BadField"
     );
     Ok(())
-}
-
-#[test]
-fn places_of_ids(rt: HostRuntime) {
-    let ids = [2, 5, 9];
-    for (id, place) in [
-        (1, None),
-        (2, Some(0)),
-        (5, Some(1)),
-        (6, None),
-        (9, Some(2)),
-        (10, None),
-    ] {
-        assert_eq!(rt; place_among(&ids, id), place, "{id}");
-    }
-    assert_eq!(rt; place_among(&[], 1), None);
 }
