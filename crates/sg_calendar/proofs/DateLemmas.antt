@@ -1,199 +1,176 @@
--- Dates by week, month and year as facts, and which of them is the greatest.
-use Rattle.std.proofs.Common.{◌≡◌, ℕ, ◌+◌, ◌-◌, ◌*◌, ◌/◌, ◌%◌, ◌<◌, ◌≤◌, Bool, true, Option, Some, None, pos, nat_le, ◌==◌, ◌&&◌, refl, sym, ap, ◌∙◌, arith, inl, inr, MatchOption}
-use Rattle.std.proofs.lemmas.Bool.{cases_lt, and_parts, and_from, eqb-true, eq-eqb, leb-true, le-leb}
-use Rattle.std.proofs.lemmas.Nat.{div-add-mod'}
-use Rattle.std.proofs.Math.Nat.{mul-mod_left}
-use Rattle.sg_base.specs.declared.repeat.Unit.TheVariants.{Day, Week, Month, Year}
+-- Dates by unit as facts, the turns of a repeat, and the one date of a day, month or year.
+use Rattle.std.proofs.Common.{◌≡◌, ℕ, ◌+◌, ◌-◌, ◌*◌, ◌/◌, ◌%◌, ◌<◌, ◌≤◌, Bool, true, Option, Some, None, ℤ, pos, negsuc, ◌<ℤ◌, ◌≤ℤ◌, nat_le, ◌==◌, ◌&&◌, refl, sym, ap, ◌∙◌, arith, inl, inr, MatchOption}
+use Rattle.std.proofs.lemmas.Bool.{cases_lt, and_parts, and_from, eqb-true, eq-eqb, leb-true, le-leb, false≢true}
+use Rattle.std.proofs.lemmas.Nat.{le-div, div-add-mod'}
+use Rattle.std.proofs.Math.Nat.{mul-mod_left, mul-div_left, mul-le-mul_right}
+use Rattle.jiff_core.proofs.SignedLemmas.{signed_arith}
+use Rattle.sg_base.specs.declared.limits.TheConstants.{DATE_END}
+use Rattle.sg_base.specs.declared.ids.DaypartId.{DaypartId}
+use Rattle.sg_base.specs.declared.event.When.TheVariants.{Named}
+use Rattle.sg_base.specs.declared.repeat.Unit.{Unit}
+use Rattle.sg_base.specs.declared.repeat.Unit.TheVariants.{Hour, Day, Week, Month, MonthWeekday, Year}
+use Rattle.sg_base.specs.Repeat.{RepeatRow}
 use Rattle.sg_calendar.specs.Civil.{civil, month_of, week_of, weekday}
-use Rattle.sg_calendar.specs.Dates.{is_multiple_above, is_chosen, is_chosen_from, is_unit_date}
-use Rattle.sg_calendar.specs.Greatest.{IsGreatest, IsLatest, IsLastIn, IsLatestIn}
+use Rattle.sg_calendar.specs.Dates.{is_multiple_above, is_chosen, period_of, is_same_day, is_same_weekday, is_anniversary, fits_period, is_unit_date, is_date, is_on_date, IsDateAfter, IsNoDateAfter}
+use Rattle.sg_calendar.specs.Nearest.{IsLeast, IsNext, IsOnly}
+use Rattle.sg_calendar.specs.Turns.{is_in_period, turn_of, is_in_turn}
 use Rattle.sg_calendar.specs.declared.civil.Civil.{Civil}
-use Rattle.sg_calendar.proofs.CivilLemmas.{civil-is, civil-year, month_of_mono, one_day}
-use Rattle.sg_calendar.proofs.PeriodLemmas.{IsMono, IsPeriodic, latest_same, step_is}
+use Rattle.sg_calendar.specs.declared.civil.TheConstants.{LAST_ASKED}
+use Rattle.sg_calendar.proofs.CivilLemmas.{civil-is, civil-year, month_of_mono, year_mono, day_in_month, one_day, short_at}
+use Rattle.sg_calendar.proofs.NearestLemmas.{IsTurns}
 
--- a date by the month
-pub record IsMonthDate (n base day : ℕ) : Type 0 where
+-- a date by a unit
+pub record IsUnitDate (unit : Unit) (n days base day : ℕ) : Type 0 where
   pub above : base ≤ day
-  pub same : (civil day).day ≡ (civil base).day
-  pub multiple : (month_of day - month_of base) % n ≡ 0
+  pub fits : fits_period unit days base day ≡ true
+  pub multiple : (period_of unit day - period_of unit base) % n ≡ 0
 
-pub month-is : (n days base day : ℕ) → is_unit_date Month n days base day ≡ true → IsMonthDate n base day
-month-is n days base day h =
-    let step : Bool = is_multiple_above n (month_of base) (month_of day) in
-    let a = and_parts (nat_le base day) (((civil day).day == (civil base).day) && step) h in
-    let b = and_parts ((civil day).day == (civil base).day) step a.1 in
-    record { above = leb-true _ _ a.0; same = eqb-true _ _ b.0; multiple = eqb-true _ _ b.1 }
+unit-is : (unit : Unit) (n days base day : ℕ) → is_unit_date unit n days base day ≡ true → IsUnitDate unit n days base day
+unit-is unit n days base day h =
+    let step : Bool = is_multiple_above n (period_of unit base) (period_of unit day) in
+    let a = and_parts (nat_le base day) (fits_period unit days base day && step) h in
+    let b = and_parts (fits_period unit days base day) step a.1 in
+    record { above = leb-true _ _ a.0; fits = b.0; multiple = eqb-true _ _ b.1 }
 
-pub month-from : (n days base day : ℕ) → IsMonthDate n base day → is_unit_date Month n days base day ≡ true
-month-from n days base day h = and_from _ _ (le-leb _ _ h.above) (and_from _ _ (eq-eqb _ _ h.same) (eq-eqb _ _ h.multiple))
+unit-from : (unit : Unit) (n days base day : ℕ) → IsUnitDate unit n days base day → is_unit_date unit n days base day ≡ true
+unit-from unit n days base day h = and_from _ _ (le-leb _ _ h.above) (and_from _ _ h.fits (eq-eqb _ _ h.multiple))
 
--- a date by the week
-pub record IsWeekDate (n days base day : ℕ) : Type 0 where
+-- a date that fits its period, which is the one with this number
+pub record IsInPeriod (unit : Unit) (days base period day : ℕ) : Type 0 where
   pub above : base ≤ day
-  pub chosen : is_chosen days (weekday (pos day)) ≡ true
-  pub multiple : (week_of day - week_of base) % n ≡ 0
+  pub fits : fits_period unit days base day ≡ true
+  pub here : period_of unit day ≡ period
 
-pub week-is : (n days base day : ℕ) → is_unit_date Week n days base day ≡ true → IsWeekDate n days base day
-week-is n days base day h =
-    let step : Bool = is_multiple_above n (week_of base) (week_of day) in
-    let a = and_parts (nat_le base day) (is_chosen days (weekday (pos day)) && step) h in
-    let b = and_parts (is_chosen days (weekday (pos day))) step a.1 in
-    record { above = leb-true _ _ a.0; chosen = b.0; multiple = eqb-true _ _ b.1 }
+pub in-is : (unit : Unit) (days base period day : ℕ) → is_in_period unit days base period day ≡ true → IsInPeriod unit days base period day
+in-is unit days base period day h =
+    let here : Bool = period_of unit day == period in
+    let a = and_parts (nat_le base day) (fits_period unit days base day && here) h in
+    let b = and_parts (fits_period unit days base day) here a.1 in
+    record { above = leb-true _ _ a.0; fits = b.0; here = eqb-true _ _ b.1 }
 
-pub week-from : (n days base day : ℕ) → IsWeekDate n days base day → is_unit_date Week n days base day ≡ true
-week-from n days base day h = and_from _ _ (le-leb _ _ h.above) (and_from _ _ h.chosen (eq-eqb _ _ h.multiple))
+pub in-from : (unit : Unit) (days base period day : ℕ) → IsInPeriod unit days base period day → is_in_period unit days base period day ≡ true
+in-from unit days base period day h = and_from _ _ (le-leb _ _ h.above) (and_from _ _ h.fits (eq-eqb _ _ h.here))
 
--- a date by the year
-pub record IsYearDate (n base day : ℕ) : Type 0 where
-  pub above : base ≤ day
-  pub same : (civil day).day ≡ (civil base).day
-  pub month : (civil day).month ≡ (civil base).month
-  pub multiple : ((civil day).year - (civil base).year) % n ≡ 0
-
-pub year-is : (n days base day : ℕ) → is_unit_date Year n days base day ≡ true → IsYearDate n base day
-year-is n days base day h =
-    let step : Bool = is_multiple_above n (civil base).year (civil day).year in
-    let month : Bool = (civil day).month == (civil base).month in
-    let a = and_parts (nat_le base day) (((civil day).day == (civil base).day) && (month && step)) h in
-    let b = and_parts ((civil day).day == (civil base).day) (month && step) a.1 in
-    let c = and_parts month step b.1 in
-    record { above = leb-true _ _ a.0; same = eqb-true _ _ b.0; month = eqb-true _ _ c.0; multiple = eqb-true _ _ c.1 }
-
-pub year-from : (n days base day : ℕ) → IsYearDate n base day → is_unit_date Year n days base day ≡ true
-year-from n days base day h =
-    and_from _ _ (le-leb _ _ h.above) (and_from _ _ (eq-eqb _ _ h.same) (and_from _ _ (eq-eqb _ _ h.month) (eq-eqb _ _ h.multiple)))
-
--- weeks and months never fall
-pub week_rises : IsMono week_of
-week_rises = record { mono = λ a b h. omega arith }
-
-pub month_rises : IsMono month_of
-month_rises = record { mono = month_of_mono }
-
-pub month_periodic : (n days base : ℕ) → IsPeriodic (is_unit_date Month n days base) month_of n base
-month_periodic n days base = record {
-  above = λ r h. (month-is n days base r h).above;
-  multiple = λ r h. (month-is n days base r h).multiple;
-}
-
-pub week_periodic : (n days base : ℕ) → IsPeriodic (is_unit_date Week n days base) week_of n base
-week_periodic n days base = record {
-  above = λ r h. (week-is n days base r h).above;
-  multiple = λ r h. (week-is n days base r h).multiple;
-}
-
--- twelve times a multiple
-twelve_up : (n y : ℕ) → y % n ≡ 0 → (12 * y) % (12 * n) ≡ 0
-twelve_up n y h =
-    let e : 12 * y ≡ y / n * (12 * n) = omega (arith, div-add-mod' y n) in
-    rw e (mul-mod_left (y / n) (12 * n))
-
--- a year is twelve months: the month's number and the year go together where they differ by a multiple of 12
-year_month : (n base day : ℕ) → IsYearDate n base day → IsMonthDate (12 * n) base day
-year_month n base day h =
-    let years = (civil day).year - (civil base).year in
-    let e : month_of day - month_of base ≡ 12 * years = omega (arith, h.month) in
-    record { above = h.above; same = h.same; multiple = rw e (twelve_up n years h.multiple) }
-
-month_year : (n base day : ℕ) → IsMonthDate (12 * n) base day → IsYearDate n base day
-month_year n base day h =
-    let q = (month_of day - month_of base) / (12 * n) in
-    let whole = div-add-mod' (month_of day - month_of base) (12 * n) in
-    let low = month_of_mono base day h.above in
-    let a = (civil-is base).is in
-    let b = (civil-is day).is in
-    let same : (civil day).month ≡ (civil base).month = omega (arith, whole, h.multiple, low, a.first, a.last, b.first, b.last) in
-    let years : (civil day).year - (civil base).year ≡ q * n = omega (arith, whole, h.multiple, low, same) in
-    record { above = h.above; same = h.same; month = same; multiple = rw years (mul-mod_left q n) }
-
--- so the latest date by months is the latest by years
-pub year_is : (n base last : ℕ) → (o : Option ℕ) → IsLatest (is_unit_date Month (12 * n) 0 base) last o → IsLatest (is_unit_date Year n 0 base) last o
-year_is n base last o h =
-    latest_same (is_unit_date Month (12 * n) 0 base) (is_unit_date Year n 0 base) last
-    (λ r q. month-from (12 * n) 0 base r (year_month n base r (year-is n 0 base r q)))
-    (λ r q. year-from n 0 base r (month_year n base r (month-is (12 * n) 0 base r q)))
-    o h
-
--- a month's number, from its parts
-pub month_number_is : (c : Civil) (n m : ℕ) → c ≡ civil n → m ≡ 12 * c.year + c.month → m ≡ month_of n
-month_number_is c n m e f = f ∙ ap (λ x. 12 * x.year + x.month) e
+-- no period falls as days go on
+pub period_mono : (unit : Unit) (a b : ℕ) → a ≤ b → period_of unit a ≤ period_of unit b
+period_mono Hour a b h = omega arith
+period_mono Day a b h = h
+period_mono Week a b h = omega arith
+period_mono Month a b h = month_of_mono a b h
+period_mono MonthWeekday a b h = month_of_mono a b h
+period_mono Year a b h = year_mono a b h
 
 pub month_bound : (n : ℕ) → n ≤ 50000 → month_of n ≤ 120000
 month_bound n h = omega (arith, civil-year n (omega arith), (civil-is n).is.last)
 
+pub period_bound : (unit : Unit) (n : ℕ) → n ≤ 50000 → period_of unit n ≤ 120000
+period_bound Hour n h = omega arith
+period_bound Day n h = omega arith
+period_bound Week n h = omega arith
+period_bound Month n h = month_bound n h
+period_bound MonthWeekday n h = month_bound n h
+period_bound Year n h = omega (arith, civil-year n (omega arith))
+
 pub month_low : (n : ℕ) → 23641 ≤ month_of n
 month_low n = omega (arith, (civil-is n).is.year, (civil-is n).is.first)
 
--- a month's date that was found, with k steps to it
-module _ (n base last k day : ℕ) (month : month_of day ≡ month_of base + k * n) (same : (civil day).day ≡ (civil base).day) where
-  month_above : base ≤ day
-  month_above =
-      elim (cases_lt day base) [
+-- a quotient never falls
+div_mono : (a b n : ℕ) → 0 < n → a ≤ b → a / n ≤ b / n
+div_mono a b n some h = le-div (a / n) b n some (omega (arith, div-add-mod' a n))
+
+-- a turn up to a day's begins no later than the day's period
+pub turn_within : (r : RepeatRow) (base day turn : ℕ) → base ≤ day → turn ≤ turn_of r base day → period_of r.unit base + turn * r.every ≤ period_of r.unit day
+turn_within r base day turn order h =
+    let up = period_mono r.unit base day order in
+    omega (arith, up, mul-le-mul_right r.every h, div-add-mod' (period_of r.unit day - period_of r.unit base) r.every)
+
+-- the dates of a repeat fall in its turns
+pub turns : (r : RepeatRow) (base : ℕ) → 0 < r.every → IsTurns (is_unit_date r.unit r.every r.days base) (turn_of r base) (is_in_turn r base)
+turns r base some = record {
+  has = λ k day h e.
+      let d = unit-is r.unit r.every r.days base day h in
+      let up = period_mono r.unit base day d.above in
+      let whole = div-add-mod' (period_of r.unit day - period_of r.unit base) r.every in
+      let same = ap (λ x. x * r.every) e in
+      in-from r.unit r.days base _ day (record { above = d.above; fits = d.fits; here = omega (arith, up, whole, same, d.multiple) });
+  is = λ k day h.
+      let d = in-is r.unit r.days base _ day h in
+      let steps : period_of r.unit day - period_of r.unit base ≡ k * r.every = omega (arith, d.here) in
+      unit-from r.unit r.every r.days base day (record { above = d.above; fits = d.fits; multiple = rw steps (mul-mod_left k r.every) });
+  at = λ k day h.
+      let d = in-is r.unit r.days base _ day h in
+      let steps : period_of r.unit day - period_of r.unit base ≡ k * r.every = omega (arith, d.here) in
+      rw steps (mul-div_left k some);
+  rises = λ a b h. div_mono (period_of r.unit a - period_of r.unit base) (period_of r.unit b - period_of r.unit base) r.every some (omega (arith, period_mono r.unit a b h));
+}
+
+-- the base fits its own period, and a period has one day at most that fits
+pub record IsOnce (period : ℕ → ℕ) (fits : ℕ → ℕ → Bool) : Type 0 where
+  pub self : (base : ℕ) → fits base base ≡ true
+  pub once : (base a b : ℕ) → period a ≡ period b → fits base a ≡ true → fits base b ≡ true → a ≡ b
+
+eqb-self : (n : ℕ) → (n == n) ≡ true
+eqb-self n = eq-eqb n n refl
+
+month_once : IsOnce month_of is_same_day
+month_once = record {
+  self = λ base. eqb-self (civil base).day;
+  once = λ base a b e f g. one_day a b e (eqb-true _ _ f ∙ sym (eqb-true _ _ g));
+}
+
+-- equal weekdays and equal places among them are equal days, within a month
+weekday_apart : (a b da db : ℕ) → db + a ≡ da + b → 1 ≤ da → 1 ≤ db → (a + 3) % 7 ≡ (b + 3) % 7 → (da - 1) / 7 ≡ (db - 1) / 7 → a ≡ b
+weekday_apart a b da db e low lower f g = omega arith
+
+weekday_parts : (base day : ℕ) → is_same_weekday base day ≡ true → ((day + 3) % 7 ≡ (base + 3) % 7) × (((civil day).day - 1) / 7 ≡ ((civil base).day - 1) / 7)
+weekday_parts base day h =
+    let parts = and_parts (weekday (pos day) == weekday (pos base)) (((civil day).day - 1) / 7 == ((civil base).day - 1) / 7) h in
+    let same : (day + 3) % 7 + 1 ≡ (base + 3) % 7 + 1 = eqb-true _ _ parts.0 in
+    (omega arith, eqb-true _ _ parts.1)
+
+weekday_once_up : (base a b : ℕ) → a ≤ b → month_of a ≡ month_of b → is_same_weekday base a ≡ true → is_same_weekday base b ≡ true → a ≡ b
+weekday_once_up base a b order e f g =
+    let x = weekday_parts base a f in
+    let y = weekday_parts base b g in
+    weekday_apart a b (civil a).day (civil b).day (day_in_month a b order e) (civil-is a).is.low (civil-is b).is.low (x.0 ∙ sym y.0) (x.1 ∙ sym y.1)
+
+weekday_once : IsOnce month_of is_same_weekday
+weekday_once = record {
+  self = λ base. and_from _ _ (eqb-self (weekday (pos base))) (eqb-self (((civil base).day - 1) / 7));
+  once = λ base a b e f g.
+      elim (cases_lt a b) [
+        | inl lt ↦ weekday_once_up base a b (omega arith) e f g
+        | inr ge ↦ sym (weekday_once_up base b a ge (sym e) g f)
+      ];
+}
+
+year_once : IsOnce (λ n. (civil n).year) is_anniversary
+year_once = record {
+  self = λ base. and_from _ _ (eqb-self (civil base).day) (eqb-self (civil base).month);
+  once = λ base a b e f g.
+      let x = and_parts ((civil a).day == (civil base).day) ((civil a).month == (civil base).month) f in
+      let y = and_parts ((civil b).day == (civil base).day) ((civil b).month == (civil base).month) g in
+      let months : (civil a).month ≡ (civil b).month = eqb-true _ _ x.1 ∙ sym (eqb-true _ _ y.1) in
+      one_day a b (omega (arith, e, months)) (eqb-true _ _ x.0 ∙ sym (eqb-true _ _ y.0));
+}
+
+-- the day that fits a period from the base's on is the period's only date
+module _ (unit : Unit) (days base period : ℕ) (from : period_of unit base ≤ period) (once : IsOnce (period_of unit) (fits_period unit days)) where
+  only_above : (n : ℕ) → fits_period unit days base n ≡ true → period_of unit n ≡ period → base ≤ n
+  only_above n fits here =
+      elim (cases_lt n base) [
         | inl lt ↦
-            let low = month_of_mono day base (omega arith) in
-            let here : month_of day ≡ month_of base = omega arith in
-            omega (arith, one_day day base here same)
+            let down = period_mono unit n base (omega arith) in
+            let same : period_of unit n ≡ period_of unit base = omega (arith, down) in
+            omega (arith, once.once base n base same fits (once.self base))
         | inr ge ↦ ge
       ]
 
-  month_date : is_unit_date Month n 0 base day ≡ true
-  month_date =
-      let e : month_of day - month_of base ≡ k * n = omega arith in
-      month-from n 0 base day (record { above = month_above; same = same; multiple = rw e (mul-mod_left k n) })
-
-  month_only : (r : ℕ) → is_unit_date Month n 0 base r ≡ true → month_of r ≡ month_of base + k * n → r ≡ day
-  month_only r h e = one_day r day (e ∙ sym month) ((month-is n 0 base r h).same ∙ sym same)
-
-  pub month_found : day ≤ last → IsLastIn (is_unit_date Month n 0 base) month_of last (month_of base + k * n) day
-  month_found le = record {
-    is = month_date;
-    within = le;
-    here = month;
-    greatest = λ r h q e. omega (arith, month_only r h e);
-  }
-
-  pub month_late : last < day → (r : ℕ) → is_unit_date Month n 0 base r ≡ true → r ≤ last → month_of r ≡ month_of base + k * n → ⊥
-  month_late lt r h le e = absurd (omega (arith, month_only r h e))
-
--- a day from the base on whose weekday is chosen
-pub chosen-is : (days base day : ℕ) → is_chosen_from days base day ≡ true → (base ≤ day) × (is_chosen days (weekday (pos day)) ≡ true)
-chosen-is days base day h =
-    let a = and_parts (nat_le base day) (is_chosen days (weekday (pos day))) h in
-    (leb-true _ _ a.0, a.1)
-
-pub chosen-from : (days base day : ℕ) → base ≤ day → is_chosen days (weekday (pos day)) ≡ true → is_chosen_from days base day ≡ true
-chosen-from days base day h k = and_from _ _ (le-leb _ _ h) k
-
--- in a week that the repeat has, the chosen days are its dates
-pub week_latest : (n days base last k : ℕ) → (o : Option ℕ) → IsLatestIn (is_chosen_from days base) week_of last (week_of base + k * n) o → IsLatestIn (is_unit_date Week n days base) week_of last (week_of base + k * n) o
-week_latest n days base last k None h = λ r q le e.
-    let w = week-is n days base r q in
-    h r (chosen-from days base r w.above w.chosen) le e
-week_latest n days base last k (Some d) h =
-    let a = chosen-is days base d h.is in
-    let steps : week_of d - week_of base ≡ k * n = omega (arith, h.here) in
-    record {
-      is = week-from n days base d (record { above = a.0; chosen = a.1; multiple = rw steps (mul-mod_left k n) });
-      within = h.within;
-      here = h.here;
-      greatest = λ r q le e.
-          let w = week-is n days base r q in
-          h.greatest r (chosen-from days base r w.above w.chosen) le e;
-    }
-
--- what was looked at from Sunday down to this place
-abbrev pub IsSeen : ℕ → ℕ → ℕ → ℕ → ℕ → Type 0
-IsSeen days base last week place = (r : ℕ) → is_chosen_from days base r ≡ true → r ≤ last → week_of r ≡ week → (r + 3) % 7 < place
-
--- by the day, division gives the date
-day-is : (n base day : ℕ) → is_unit_date Day n 0 base day ≡ true → (base ≤ day) × ((day - base) % n ≡ 0)
-day-is n base day h =
-    let a = and_parts (nat_le base day) (is_multiple_above n base day) h in
-    (leb-true _ _ a.0, eqb-true _ _ a.1)
-
-pub day_latest : (n base last : ℕ) → 0 < n → base ≤ last → IsGreatest (is_unit_date Day n 0 base) last (base + (last - base) / n * n)
-day_latest n base last some order =
-    step_is (is_unit_date Day n 0 base) n base last some order (day-is n base) (λ r h e. and_from _ _ (le-leb _ _ h) (eq-eqb _ _ e))
+  pub only_is : (n : ℕ) → fits_period unit days base n ≡ true → period_of unit n ≡ period → IsOnly (is_in_period unit days base period) (Some n)
+  only_is n fits here = (
+    in-from unit days base period n (record { above = only_above n fits here; fits = fits; here = here }),
+    λ r h. let d = in-is unit days base period r h in once.once base r n (d.here ∙ sym here) d.fits fits,
+  )
 
 -- the date with a month's parts is the month's day
 same_parts : (c : Civil) (month day : ℕ) → 1 ≤ c.month → c.month ≤ 12 → 0 < month → 12 * c.year + c.month ≡ month → c.day ≡ day → c ≡ record { year = (month - 1) / 12; month = (month - 1) % 12 + 1; day = day }
@@ -202,8 +179,112 @@ same_parts c month day low high some e f =
     let place : c.month ≡ (month - 1) % 12 + 1 = omega arith in
     rw (← year, ← place, ← f) refl
 
-pub month_day_is : (month day : ℕ) → 23641 ≤ month → (o : Option ℕ) → MatchOption o ((n : ℕ) → civil n ≡ record { year = (month - 1) / 12; month = (month - 1) % 12 + 1; day = day } → ⊥) (λ n. civil n ≡ record { year = (month - 1) / 12; month = (month - 1) % 12 + 1; day = day }) → MatchOption o ((n : ℕ) → month_of n ≡ month → (civil n).day ≡ day → ⊥) (λ n. (month_of n ≡ month) × ((civil n).day ≡ day))
+-- what is known of a day of a month, or that there is none
+abbrev pub IsMonthDay : ℕ → ℕ → Option ℕ → Type 0
+IsMonthDay month day o =
+    MatchOption o ((n : ℕ) → month_of n ≡ month → (civil n).day ≡ day → ⊥) (λ n. (month_of n ≡ month) × ((civil n).day ≡ day))
+
+-- and of a date
+abbrev pub IsDayOf : ℕ → ℕ → ℕ → Option ℕ → Type 0
+IsDayOf year month day o =
+    MatchOption o ((n : ℕ) → civil n ≡ record { year = year; month = month; day = day } → ⊥) (λ n. civil n ≡ record { year = year; month = month; day = day })
+
+pub month_day_is : (month day : ℕ) → 23641 ≤ month → (o : Option ℕ) → IsDayOf ((month - 1) / 12) ((month - 1) % 12 + 1) day o → IsMonthDay month day o
 month_day_is month day some None h = λ n e f.
     let is = (civil-is n).is in
     h n (same_parts (civil n) month day is.first is.last (omega arith) e f)
 month_day_is month day some (Some n) h = (rw h (omega arith), ap (λ c. c.day) h)
+
+-- the base's day of a month
+pub only_day_of_month : (base month : ℕ) → month_of base ≤ month → (o : Option ℕ) → IsMonthDay month (civil base).day o → IsOnly (is_in_period Month 0 base month) o
+only_day_of_month base month from None h = λ r q.
+    let d = in-is Month 0 base month r q in
+    h r d.here (eqb-true _ _ d.fits)
+only_day_of_month base month from (Some n) h =
+    only_is Month 0 base month from month_once n (eq-eqb _ _ h.1) h.0
+
+-- the day of the month that is the p-th after the first of b's weekday, where the month begins on day f
+abbrev pub placed : ℕ → ℕ → ℕ → ℕ
+placed b f p = 1 + ((b + 3) % 7 + 1 + 7 - ((f + 3) % 7 + 1)) % 7 + p * 7
+
+placed_is : (b f r d p : ℕ) → d + f ≡ 1 + r → 1 ≤ d → (r + 3) % 7 ≡ (b + 3) % 7 → (d - 1) / 7 ≡ p → d ≡ placed b f p
+placed_is b f r d p e low same place = omega arith
+
+placed_back : (b f r p : ℕ) → placed b f p + f ≡ 1 + r → ((r + 3) % 7 ≡ (b + 3) % 7) × ((placed b f p - 1) / 7 ≡ p)
+placed_back b f r p e = (omega arith, omega arith)
+
+-- a month's days go on from its first
+from_first : (f r : ℕ) → month_of f ≡ month_of r → (civil f).day ≡ 1 → (civil r).day + f ≡ 1 + r
+from_first f r month first =
+    elim (cases_lt r f) [
+      | inl lt ↦ absurd (omega (arith, day_in_month r f (omega arith) (sym month), (civil-is r).is.low))
+      | inr ge ↦ omega (arith, day_in_month f r ge month)
+    ]
+
+module _ (base month f : ℕ) (in_month : month_of f ≡ month) (first : (civil f).day ≡ 1) where
+  -- a date of the month on the base's weekday, as often as the base has it in its month
+  weekday_placed : (r : ℕ) → month_of r ≡ month → is_same_weekday base r ≡ true → (civil r).day ≡ placed base f (((civil base).day - 1) / 7)
+  weekday_placed r here same =
+      let parts = weekday_parts base r same in
+      placed_is base f r (civil r).day (((civil base).day - 1) / 7) (from_first f r (in_month ∙ sym here) first) (civil-is r).is.low parts.0 parts.1
+
+  placed_weekday : (n : ℕ) → month_of n ≡ month → (civil n).day ≡ placed base f (((civil base).day - 1) / 7) → is_same_weekday base n ≡ true
+  placed_weekday n here day =
+      let e = from_first f n (in_month ∙ sym here) first in
+      let back = placed_back base f n (((civil base).day - 1) / 7) (rw day at e) in
+      let same : weekday (pos n) ≡ weekday (pos base) = ap (λ x. x + 1) back.0 in
+      and_from _ _ (eq-eqb _ _ same) (eq-eqb _ _ (ap (λ x. (x - 1) / 7) day ∙ back.1))
+
+  pub only_weekday_of_month : month_of base ≤ month → (o : Option ℕ) → IsMonthDay month (placed base f (((civil base).day - 1) / 7)) o → IsOnly (is_in_period MonthWeekday 0 base month) o
+  only_weekday_of_month from None h = λ r q.
+      let d = in-is MonthWeekday 0 base month r q in
+      h r d.here (weekday_placed r d.here d.fits)
+  only_weekday_of_month from (Some n) h =
+      only_is MonthWeekday 0 base month from weekday_once n (placed_weekday n h.0 h.1) h.0
+
+  -- no month has a 32nd day
+  pub no_weekday_of_month : 31 < placed base f (((civil base).day - 1) / 7) → IsOnly (is_in_period MonthWeekday 0 base month) None
+  no_weekday_of_month late = λ r q.
+      let d = in-is MonthWeekday 0 base month r q in
+      absurd (omega (arith, weekday_placed r d.here d.fits, short_at r))
+
+-- the base's month and day of a year
+anniversary_parts : (base r : ℕ) → is_anniversary base r ≡ true → ((civil r).day ≡ (civil base).day) × ((civil r).month ≡ (civil base).month)
+anniversary_parts base r h =
+    let x = and_parts ((civil r).day == (civil base).day) ((civil r).month == (civil base).month) h in
+    (eqb-true _ _ x.0, eqb-true _ _ x.1)
+
+civil_parts : (c : Civil) (y m d : ℕ) → c.year ≡ y → c.month ≡ m → c.day ≡ d → c ≡ record { year = y; month = m; day = d }
+civil_parts c y m d e f g = rw (← e, ← f, ← g) refl
+
+pub only_day_of_year : (base year : ℕ) → (civil base).year ≤ year → (o : Option ℕ) → IsDayOf year (civil base).month (civil base).day o → IsOnly (is_in_period Year 0 base year) o
+only_day_of_year base year from None h = λ r q.
+    let d = in-is Year 0 base year r q in
+    let parts = anniversary_parts base r d.fits in
+    h r (civil_parts (civil r) year (civil base).month (civil base).day d.here parts.1 parts.0)
+only_day_of_year base year from (Some n) h =
+    only_is Year 0 base year from year_once n (and_from _ _ (eq-eqb _ _ (ap (λ c. c.day) h)) (eq-eqb _ _ (ap (λ c. c.month) h))) (ap (λ c. c.year) h)
+
+-- the chosen days of a week that were looked at, from Sunday down to this weekday
+abbrev pub IsSeenDown : ℕ → ℕ → ℕ → ℕ → ℕ → Type 0
+IsSeenDown days base last week weekday = (r : ℕ) → is_in_period Week days base week r ≡ true → r ≤ last → (r + 3) % 7 < weekday
+
+-- and from Monday up to it
+abbrev pub IsSeenUp : ℕ → ℕ → ℕ → ℕ → ℕ → ℕ → Type 0
+IsSeenUp days base first end week weekday = (r : ℕ) → is_in_period Week days base week r ≡ true → first ≤ r → r < end → weekday ≤ (r + 3) % 7 + 1
+
+-- the next date of an event in a daypart, from the next on the days from 1970 on
+module _ (daypart : DaypartId) (base : ℕ) (r : Option RepeatRow) (date : ℤ) (first : ℕ) (above : date <ℤ pos first) (least : (n : ℕ) → date <ℤ pos n → first ≤ n) where
+  pub date_after : (d : ℕ) → IsLeast (is_date r base) first LAST_ASKED d → IsDateAfter (Named daypart base) r date (pos d)
+  date_after d h = record { is = h.is; after = omega (arith, signed_arith, h.from); within = omega (arith, signed_arith, h.below); least = from_least }
+    where
+      from_least : (z : ℤ) → is_on_date (Named daypart base) r z ≡ true → date <ℤ z → pos d ≤ℤ z
+      from_least (pos n) q lt = omega (arith, signed_arith, h.least n q (least n lt))
+      from_least (negsuc n) q lt = absurd (false≢true q)
+
+  pub no_date_after : IsNext (is_date r base) first LAST_ASKED None → IsNoDateAfter (Named daypart base) r date
+  no_date_after h = record { none = late }
+    where
+      late : (z : ℤ) → is_on_date (Named daypart base) r z ≡ true → date <ℤ z → DATE_END ≤ℤ z
+      late (pos n) q lt = omega (arith, signed_arith, h n q (least n lt))
+      late (negsuc n) q lt = absurd (false≢true q)

@@ -1,6 +1,7 @@
 pub mod CivilLemmas
 pub mod ZoneLemmas
 pub mod WindowLemmas
-pub mod PeriodLemmas
+pub mod NearestLemmas
 pub mod DateLemmas
 pub mod StartLemmas
+mod Examples

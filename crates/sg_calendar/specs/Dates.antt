@@ -1,7 +1,8 @@
 -- On which dates an event has an occurrence, and at which seconds one starts.
 use Rattle.std.specs.Prelude.{◌≡◌, ℕ, ◌-◌, ◌*◌, ◌/◌, ◌%◌, ◌^◌, ◌==◌, nat_le, ◌&&◌, Bool, true, false, Option, Some, None, ⊤, ℤ, pos, negsuc, ◌<ℤ◌, ◌≤ℤ◌}
+use Rattle.sg_base.specs.declared.limits.TheConstants.{HOUR, DAY, LOCAL_END, DATE_END}
 use Rattle.sg_base.specs.declared.repeat.Unit.{Unit}
-use Rattle.sg_base.specs.declared.repeat.Unit.TheVariants.{Hour, Day, Week, Month, Year}
+use Rattle.sg_base.specs.declared.repeat.Unit.TheVariants.{Hour, Day, Week, Month, MonthWeekday, Year}
 use Rattle.sg_base.specs.declared.event.When.{When}
 use Rattle.sg_base.specs.declared.event.When.TheVariants.{Always, Custom, Named}
 use Rattle.sg_base.specs.Repeat.{RepeatRow}
@@ -15,27 +16,47 @@ is_multiple_above n a b = (b - a) % n == 0
 abbrev pub is_chosen : ℕ → ℕ → Bool
 is_chosen days w = days / 2 ^ (w - 1) % 2 == 1
 
--- a day from the base on whose weekday is chosen
-abbrev pub is_chosen_from : ℕ → ℕ → ℕ → Bool
-is_chosen_from days base day = nat_le base day && is_chosen days (weekday (pos day))
-
 -- a day that isn't after the last one, where there is a last one
 abbrev pub is_until : Option ℕ → ℕ → Bool
 is_until None day = true
 is_until (Some last) day = nat_le day last
 
--- what a unit asks of a date that isn't before the base: each step-th day; the chosen weekdays of each
--- step-th week; the base's day of the month in each step-th month; its month and day in each step-th year
+-- the day, week, month or year of a date, as a number that rises by 1 from each to the next
+abbrev pub period_of : Unit → ℕ → ℕ
+period_of Hour day = 0
+period_of Day day = day
+period_of Week day = week_of day
+period_of Month day = month_of day
+period_of MonthWeekday day = month_of day
+period_of Year day = (civil day).year
+
+-- equal days of the month
+abbrev pub is_same_day : ℕ → ℕ → Bool
+is_same_day base day = (civil day).day == (civil base).day
+
+-- equal weekdays, and both the same one of their month's, from the first to the fifth
+abbrev pub is_same_weekday : ℕ → ℕ → Bool
+is_same_weekday base day =
+    (weekday (pos day) == weekday (pos base)) && (((civil day).day - 1) / 7 == ((civil base).day - 1) / 7)
+
+-- equal months, and equal days of the month
+abbrev pub is_anniversary : ℕ → ℕ → Bool
+is_anniversary base day = is_same_day base day && ((civil day).month == (civil base).month)
+
+-- what a unit asks of a date within its week, month or year
+abbrev pub fits_period : Unit → ℕ → ℕ → ℕ → Bool
+fits_period Hour days base day = false
+fits_period Day days base day = true
+fits_period Week days base day = is_chosen days (weekday (pos day))
+fits_period Month days base day = is_same_day base day
+fits_period MonthWeekday days base day = is_same_weekday base day
+fits_period Year days base day = is_anniversary base day
+
+-- what a unit asks of a date that isn't before the base: to fit its week, month or year, and to be in each
+-- `every`-th of them from the base's
 abbrev pub fits_unit : Unit → ℕ → ℕ → ℕ → ℕ → Bool
-fits_unit Hour every days base day = false
-fits_unit Day every days base day = is_multiple_above every base day
-fits_unit Week every days base day =
-    is_chosen days (weekday (pos day)) && is_multiple_above every (week_of base) (week_of day)
-fits_unit Month every days base day =
-    ((civil day).day == (civil base).day) && is_multiple_above every (month_of base) (month_of day)
-fits_unit Year every days base day =
-    ((civil day).day == (civil base).day)
-    && (((civil day).month == (civil base).month) && is_multiple_above every (civil base).year (civil day).year)
+fits_unit unit every days base day =
+    fits_period unit days base day && is_multiple_above every (period_of unit base) (period_of unit day)
 
 -- a date by a unit, from the base on
 abbrev pub is_unit_date : Unit → ℕ → ℕ → ℕ → ℕ → Bool
@@ -52,15 +73,15 @@ is_date (Some r) base day = is_repeat_date r base day
 
 -- a multiple of n hours after `from`
 abbrev pub is_hour : ℕ → ℕ → ℕ → Bool
-is_hour n from s = nat_le from s && ((s - from) % (3600 * n) == 0)
+is_hour n from s = nat_le from s && ((s - from) % (HOUR * n) == 0)
 
 -- a start by the hour, on a day that isn't after the last one
 abbrev pub is_hour_start : RepeatRow → ℕ → ℕ → Bool
-is_hour_start r from s = is_until r.until (s / 86400) && is_hour r.every from s
+is_hour_start r from s = is_until r.until (s / DAY) && is_hour r.every from s
 
 -- a start on a date of the repeat, at the base's time of day
 abbrev pub is_day_start : RepeatRow → ℕ → ℕ → Bool
-is_day_start r from s = is_repeat_date r (from / 86400) (s / 86400) && (s % 86400 == from % 86400)
+is_day_start r from s = is_repeat_date r (from / DAY) (s / DAY) && (s % DAY == from % DAY)
 
 -- a start of a repeat
 abbrev pub is_unit_start : Unit → RepeatRow → ℕ → ℕ → Bool
@@ -68,6 +89,7 @@ is_unit_start Hour r from s = is_hour_start r from s
 is_unit_start Day r from s = is_day_start r from s
 is_unit_start Week r from s = is_day_start r from s
 is_unit_start Month r from s = is_day_start r from s
+is_unit_start MonthWeekday r from s = is_day_start r from s
 is_unit_start Year r from s = is_day_start r from s
 
 -- a start of an event whose base is the second `from`; without a repeat the base alone
@@ -105,3 +127,27 @@ pub record IsStartUpTo (w : When) (r : Option RepeatRow) (t z : ℤ) : Type 0 wh
 -- every start is after t
 pub record IsNoStart (w : When) (r : Option RepeatRow) (t : ℤ) : Type 0 where
   pub none : (s : ℕ) → is_event_start w r s ≡ true → t <ℤ pos s
+
+-- z is the least start after t, and before the end of local seconds
+pub record IsStartAfter (w : When) (r : Option RepeatRow) (t z : ℤ) : Type 0 where
+  pub second : ℕ
+  pub value : z ≡ pos second
+  pub is : is_event_start w r second ≡ true
+  pub after : t <ℤ z
+  pub within : z <ℤ LOCAL_END
+  pub least : (s : ℕ) → is_event_start w r s ≡ true → t <ℤ pos s → z ≤ℤ pos s
+
+-- every start after t is at the end of local seconds or after it
+pub record IsNoStartAfter (w : When) (r : Option RepeatRow) (t : ℤ) : Type 0 where
+  pub none : (s : ℕ) → is_event_start w r s ≡ true → t <ℤ pos s → LOCAL_END ≤ℤ pos s
+
+-- z is the least date after another on which the event has an occurrence, and before the end of dates
+pub record IsDateAfter (w : When) (r : Option RepeatRow) (date z : ℤ) : Type 0 where
+  pub is : is_on_date w r z ≡ true
+  pub after : date <ℤ z
+  pub within : z <ℤ DATE_END
+  pub least : (d : ℤ) → is_on_date w r d ≡ true → date <ℤ d → z ≤ℤ d
+
+-- every date after this one on which the event has an occurrence is at the end of dates or after it
+pub record IsNoDateAfter (w : When) (r : Option RepeatRow) (date : ℤ) : Type 0 where
+  pub none : (d : ℤ) → is_on_date w r d ≡ true → date <ℤ d → DATE_END ≤ℤ d

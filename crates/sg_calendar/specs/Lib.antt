@@ -1,6 +1,7 @@
 pub mod Civil
-pub mod Greatest
+pub mod Nearest
 pub mod Dates
+pub mod Turns
 pub mod Windows
 pub mod Zone
 pub mod ZoneKind

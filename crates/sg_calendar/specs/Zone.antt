@@ -7,6 +7,7 @@ use Rattle.jiff_tz.specs.PosixText.{DstText, TzText}
 use Rattle.jiff_tz.specs.PosixRule.{match_some, rule_day, clamp_to, nanos_per_day, first_nanosecond, last_nanosecond, saturating_add, int_same, in_window}
 use Rattle.jiff_tz.specs.Year.{year_of_nanos}
 use Rattle.jiff_tz.specs.declared.posix.Day.{Day}
+use Rattle.sg_base.specs.declared.limits.TheConstants.{MAX_OFFSET, MAX_ZONE_TEXT}
 use Rattle.sg_base.specs.declared.zone.ZoneRule.{ZoneRule}
 use Rattle.sg_base.specs.declared.zone.ZoneRule.TheVariants.{Offset, Posix}
 use Rattle.sg_calendar.specs.declared.zone.ZoneFault.{ZoneFault}
@@ -20,7 +21,7 @@ pub data ZoneView : Type 0 where
 -- 1 to 64 printable bytes of ASCII
 abbrev pub is_text : List ℕ → Bool
 is_text text =
-    nat_le 1 (length text) && (nat_le (length text) 64 && list_all (λ b. nat_le 32 b && nat_le b 126) text)
+    nat_le 1 (length text) && (nat_le (length text) MAX_ZONE_TEXT && list_all (λ b. nat_le 32 b && nat_le b 126) text)
 
 abbrev pub zone_of_read : Option TzText → Result ZoneView ZoneFault
 zone_of_read None = Err BadZone
@@ -33,7 +34,7 @@ zone_of_text text = if is_text text then zone_of_read (read_whole text) else Err
 -- the zone that a rule tells, or why it tells none: an offset has -840 to 840 minutes
 abbrev pub zone_of : ZoneRule → Result ZoneView ZoneFault
 zone_of (Offset n) =
-    if int_lt n (neg_ℤ (pos 840)) || int_lt (pos 840) n then Err (OffsetRange n) else Ok (Minutes n)
+    if int_lt n (neg_ℤ MAX_OFFSET) || int_lt MAX_OFFSET n then Err (OffsetRange n) else Ok (Minutes n)
 zone_of (Posix text) = zone_of_text text
 
 -- when a change of clocks falls in the year y, in nanoseconds at UTC, on a clock `seconds` ahead of UTC

@@ -1,6 +1,7 @@
 -- A zone's fields as what its rule says.
-use Rattle.std.specs.Prelude.{pos, neg_ℤ, ◌≤ℤ◌}
+use Rattle.std.specs.Prelude.{neg_ℤ, ◌≤ℤ◌}
 use Rattle.jiff_tz.specs.PosixText.{tz_view}
+use Rattle.sg_base.specs.declared.limits.TheConstants.{MAX_OFFSET}
 use Rattle.sg_calendar.specs.declared.zone.Kind.{Kind}
 use Rattle.sg_calendar.specs.declared.zone.Kind.TheVariants.{Fixed, Rule}
 use Rattle.sg_calendar.specs.Zone.{ZoneView, Minutes, Says}
@@ -11,5 +12,5 @@ kind_view (Rule tz) = Says (tz_view tz)
 
 -- a fixed offset has at most 14 hours
 abbrev pub IsInRange : Kind → Type 0
-IsInRange (Fixed n) = (neg_ℤ (pos 840) ≤ℤ n) × (n ≤ℤ pos 840)
+IsInRange (Fixed n) = (neg_ℤ MAX_OFFSET ≤ℤ n) × (n ≤ℤ MAX_OFFSET)
 IsInRange (Rule tz) = Unit {0}

@@ -3,6 +3,7 @@ ghost use Rattle.std.specs.Prelude.{◌≡◌, ℕ, ◌≤◌, IsSome, IfSome, M
 ghost use Rattle.sg_calendar.specs.Civil.{civil, IsCivil};
 
 use jiff_core::civil::Date;
+use sg_base::limits::DATE_END;
 
 /// A date of the proleptic Gregorian calendar from 1970 on.
 #[derive(Clone, Copy, Debug, PartialEq, Eq)]
@@ -12,12 +13,15 @@ pub struct Civil {
     pub day: u32,
 }
 
+/// The last day that may be asked about.
+pub(crate) const LAST_ASKED: u32 = DATE_END as u32;
+
 // The library counts days from -9999-01-01, which is this many days before 1970-01-01.
 const DAYS_BEFORE_EPOCH: u32 = 4_371_587;
 
 // The date of a day number, where day 0 is 1970-01-01.
 pub(crate) fn civil_of(day: u32) -> Civil
-    requires { day ≤ 50000 }
+    requires { day ≤ LAST_ASKED }
     ensures value { result ≡ civil day }
     ensures valid { IsCivil result }
     ensures few { result.year ≤ 9999 }

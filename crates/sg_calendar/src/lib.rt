@@ -7,14 +7,15 @@
 //! `specs/Civil.antt`, and windows in `specs/Windows.antt`.
 #![tactic(auto)]
 
-pub use dates::on_date;
-pub use starts::latest_start;
-pub use windows::window;
+pub use dates::{next_date, on_date};
+pub use starts::{latest_start, next_start};
+pub use windows::{FIRST_WINDOW, window};
 pub use zone::{Zone, ZoneFault};
 
 mod civil;
 mod dates;
-mod latest;
+mod nearest;
+mod periods;
 mod starts;
 #[cfg(test)]
 mod tests;

@@ -1,10 +1,11 @@
 //! Zones: the local second of a moment.
 
-ghost use Rattle.std.specs.Prelude.{◌≡◌, ◌<◌, ◌≤◌, pos, neg_ℤ, ◌≤ℤ◌, ◌<ℤ◌, nat_le, ◌&&◌, MatchResult, IsOk, IfOk};
+ghost use Rattle.std.specs.Prelude.{◌≡◌, ◌≤◌, neg_ℤ, ◌≤ℤ◌, nat_le, ◌&&◌, MatchResult, IsOk, IfOk};
 ghost use Rattle.std.specs.List.{list_all};
 
 use jiff_core::Timestamp;
 use jiff_tz::posix::TimeZone;
+use sg_base::limits::{FIRST_LOCAL, LAST_MOMENT, MAX_OFFSET, MAX_ZONE_TEXT};
 use sg_base::{LocalSec, Moment, ZoneRule};
 use std::alloc::AllocError;
 use std::marker::Model;
@@ -48,6 +49,7 @@ impl Model for Zone {
 }
 
 impl Zone {
+    ghost use Rattle.sg_base.specs.Seconds.{IsAskable};
     ghost use Rattle.sg_calendar.specs.Zone.{zone_of, local_at};
 
     /// Reads a rule. It is refused with `OffsetRange` where an offset has more than 840 minutes to either
@@ -66,8 +68,7 @@ impl Zone {
     pub fn local(&self, moment: Moment) -> Result<LocalSec, AllocError>
         ensures ok { IsOk result }
         ensures value { IfOk result (λ t. t ≡ local_at self.now moment) }
-        ensures low { IfOk result (λ t. neg_ℤ (pos 93599) ≤ℤ t) }
-        ensures high { IfOk result (λ t. t ≤ℤ pos 4102538398) }
+        ensures second { IfOk result IsAskable }
     {
         let seconds = moment.seconds();
         let ahead = match &self.kind {
@@ -85,7 +86,7 @@ ghost use Rattle.jiff_tz.specs.PosixText.{tz_view};
 fn read_offset(minutes: i32) -> Result<Zone, ZoneFault>
     ensures { MatchResult result (λ z. zone_of (OffsetRule minutes) ≡ Ok z) (λ e. zone_of (OffsetRule minutes) ≡ Err e) }
 {
-    if minutes < -840 || minutes > 840 {
+    if minutes < -MAX_OFFSET || minutes > MAX_OFFSET {
         return Err(ZoneFault::OffsetRange(minutes));
     }
     Ok(Zone {
@@ -111,7 +112,7 @@ fn read_text(text: &[u8]) -> Result<Zone, ZoneFault>
 fn is_zone_text(text: &[u8]) -> bool
     ensures { result ≡ is_text text.now }
 {
-    text.len() >= 1 && text.len() <= 64 && are_printable(text)
+    text.len() >= 1 && text.len() <= MAX_ZONE_TEXT && are_printable(text)
 }
 
 fn are_printable(text: &[u8]) -> bool
@@ -122,10 +123,10 @@ fn are_printable(text: &[u8]) -> bool
 
 // How far the rule's clock is ahead of UTC at a moment, in seconds.
 fn seconds_ahead(rule: &TimeZone, moment: u32) -> i32
-    requires { moment ≤ 4102444799 }
+    requires { moment ≤ LAST_MOMENT }
     ensures value { result ≡ offset_of (tz_view rule.now) moment }
-    ensures low { neg_ℤ (pos 93599) ≤ℤ result }
-    ensures high { result ≤ℤ pos 93599 }
+    ensures low { FIRST_LOCAL ≤ℤ result }
+    ensures high { result ≤ℤ neg_ℤ FIRST_LOCAL }
 {
     let instant = Timestamp {
         nanosecond: moment as i128 * NANOS_PER_SECOND,

@@ -10,4 +10,4 @@ returns c =
       | in-Some w ↦ rw (← w.in-Some.ensures.value) (w.cut-is ∙ w.min-cut.ensures)
       | in-None w ↦ rw (← w.in-None.ensures.value) w.cut-is
     ] in
-    rw c.every.ensures.value (hour_latest c.args.repeat.now c.args.from c.args.t c.match-until.cut (omega (arith, c.every.ensures.value, c.every.ensures.some)) c.if-cut-from.false cut)
+    rw c.every.ensures.value (hour_latest c.args.repeat.now c.args.from (omega (arith, c.every.ensures.value, c.every.ensures.some)) c.args.t c.match-until.cut c.if-cut-from.false cut)

@@ -11,4 +11,4 @@ returns-clause-from c =
 pub returns-clause-to : goal.returns-clause-to
 returns-clause-to c =
     let same : to_z w64 (of_z w64 c.args.date) ≡ c.args.date = omega (arith, signed_casts) in
-    closes_at c.args.daypart.now c.args.date _ _ (rw same at c.window_on-found.ensures.value) (omega (arith, signed_casts, c.new-2.ensures, c.end_second.ensures))
+    closes_at c.args.daypart.now c.args.date _ _ (rw same at c.window_on-found.ensures.value) (omega (arith, signed_casts, c.new-2.ensures, c.end_second.ensures.value))
