@@ -4,7 +4,8 @@ use Rattle.sg_base.specs.declared.play.PlayBody.{PlayBody}
 use Rattle.sg_disk.specs.View.{range}
 use Rattle.sg_disk.specs.Contents.{IsRoom, IsLawful, fresh}
 use Rattle.sg_disk.specs.StandsFor.{IsHeader, IsOpen, HoldsPlays, gate, journal_of, StandsFor}
-use Rattle.sg_disk.specs.declared.places.TheConstants.{HEADER_LEN, SLOT_ZERO, SLOT_ONE, SLOT_LEN, RECORDS, DATA}
+use Rattle.sg_base.specs.declared.limits.TheConstants.{JOURNAL_RECORDS}
+use Rattle.sg_disk.specs.declared.places.TheConstants.{HEADER_LEN, SLOT_ZERO, SLOT_ONE, SLOT_LEN, DATA}
 
 pub lawful_fresh : (display epoch room : ℕ) → (1 ≤ display) × (display < 2 ^ 32) → (1 ≤ epoch) × (epoch < 2 ^ 32) → IsRoom room → IsLawful (fresh display epoch room)
 lawful_fresh display epoch room display_ok epoch_ok room_ok = record {
@@ -18,7 +19,7 @@ lawful_fresh display epoch room display_ok epoch_ok room_ok = record {
 }
 
 -- a journal with every gate closed holds no play
-pub no_plays : (epoch : ℕ) (area : List ℕ) → ((k : ℕ) → k < RECORDS → gate area k ≡ 1 → ⊥) → HoldsPlays epoch 1 [] area
+pub no_plays : (epoch : ℕ) (area : List ℕ) → ((k : ℕ) → k < JOURNAL_RECORDS → gate area k ≡ 1 → ⊥) → HoldsPlays epoch 1 [] area
 no_plays epoch area closed = record {
   starts = omega arith;
   within = omega arith;
@@ -32,7 +33,7 @@ no_plays epoch area closed = record {
     nothing i play is = cc
 
 -- a header, and every other gate closed
-pub fresh_stands : (display epoch room : ℕ) (c : List ℕ) → IsLawful (fresh display epoch room) → length c ≡ DATA + room → IsHeader display epoch room (range c 0 HEADER_LEN) → (IsOpen (range c SLOT_ZERO SLOT_LEN) → ⊥) → (IsOpen (range c SLOT_ONE SLOT_LEN) → ⊥) → ((k : ℕ) → k < RECORDS → gate (journal_of c) k ≡ 1 → ⊥) → StandsFor (fresh display epoch room) c
+pub fresh_stands : (display epoch room : ℕ) (c : List ℕ) → IsLawful (fresh display epoch room) → length c ≡ DATA + room → IsHeader display epoch room (range c 0 HEADER_LEN) → (IsOpen (range c SLOT_ZERO SLOT_LEN) → ⊥) → (IsOpen (range c SLOT_ONE SLOT_LEN) → ⊥) → ((k : ℕ) → k < JOURNAL_RECORDS → gate (journal_of c) k ≡ 1 → ⊥) → StandsFor (fresh display epoch room) c
 fresh_stands display epoch room c lawful size header zero one closed = record {
   lawful = lawful;
   size = size;

@@ -1,7 +1,9 @@
 -- What one call does to a disk in memory.
 use Rattle.std.proofs.Common.{◌≡◌, ◌⊎◌, inl, inr, ℕ, List, ◌∷◌, length, Option, Vec, refl, sym, subst, arith}
 use Rattle.std.specs.declared.alloc.Global.{Global}
-use Rattle.sg_disk.specs.View.{View, Torn, Sized, Resized, Same, Written, Follows, Rose, Elapses, Lowers, Falls, LowersByOne, Passed, Failed}
+use Rattle.sg_base.specs.Causes.{Rose}
+use Rattle.sg_base.specs.Stops.{Lowers, Falls, LowersByOne}
+use Rattle.sg_disk.specs.View.{View, Torn, Sized, Resized, Same, Written, Follows, Elapses, Passed, Failed}
 use Rattle.sg_disk.specs.History.{read_of, Fits, ImageOf, ImageSince}
 use Rattle.sg_disk.specs.HistoryLaws.{history_view, read_image, resized_sized}
 use Rattle.sg_disk.specs.declared.history.Call.{Call}

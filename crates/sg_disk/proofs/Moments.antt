@@ -1,6 +1,7 @@
 -- Runs of calls, one behind another.
-use Rattle.std.proofs.Common.{◌≡◌, inl, inr, ℕ, ◌+◌, ◌≤◌, List, Option, refl, sym, ◌∙◌, subst, arith, ⊎_elim}
-use Rattle.sg_disk.specs.View.{View, Same, Lowers, Falls, Elapses, Passed, Failed, Only}
+use Rattle.std.proofs.Common.{◌≡◌, inl, inr, ℕ, ◌+◌, ◌≤◌, List, refl, sym, ◌∙◌, subst, arith, ⊎_elim}
+use Rattle.sg_base.proofs.StopLemmas.{lowers_none, lowers_joined, lowers_fewer, lowers_falls, rose_later}
+use Rattle.sg_disk.specs.View.{View, Same, Elapses, Passed, Failed, Only}
 use Rattle.sg_disk.specs.Runs.{LeavesOnly, Ran, Broke, Quiet}
 
 -- before the first call
@@ -41,35 +42,6 @@ weaker old new P Q f run = record {
 -- each image now
 pub at_end : (old new : View) (P : List ℕ → Type 0) → LeavesOnly P old new → (c : List ℕ) → new.images c → P c
 at_end old new P run c now = run.each c (new.counts_now old.moment c run.later now)
-
-pub lowers_none : (x : Option ℕ) → Lowers 0 x x
-lowers_none x = record { none = λ e. e; some = λ k e. (k, e, omega arith) }
-
-pub lowers_joined : (a b : ℕ) (x y z : Option ℕ) → Lowers a x y → Lowers b y z → Lowers (a + b) x z
-lowers_joined a b x y z first second = record {
-  none = λ e. second.none (first.none e);
-  some = λ k e.
-      let one = first.some k e in
-      let two = second.some one.0 one.1 in
-      (two.0, two.1, omega (arith, one.2, two.2));
-}
-
-pub lowers_fewer : (a b : ℕ) (x y : Option ℕ) → b ≤ a → Lowers a x y → Lowers b x y
-lowers_fewer a b x y le low = record {
-  none = low.none;
-  some = λ k e. let one = low.some k e in (one.0, one.1, omega (arith, one.2, le));
-}
-
-pub lowers_falls : (a : ℕ) (x y z : Option ℕ) → Lowers a x y → Falls y z → Falls x z
-lowers_falls a x y z first second = record {
-  none = λ e. second.none (first.none e);
-  some = λ k e.
-      let one = first.some k e in
-      elim (second.some one.0 one.1) [
-        | inl gone ↦ inl gone
-        | inr two ↦ inr (two.0, two.1, omega (arith, one.2, two.2))
-      ];
-}
 
 pub ran_none : (v : View) → Ran 0 v v
 ran_none v = record { told = λ t. t; faults = refl; stop = lowers_none v.stop }

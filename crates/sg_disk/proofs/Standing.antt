@@ -7,7 +7,7 @@ use Rattle.sg_disk.specs.View.{View, Only}
 use Rattle.sg_disk.specs.Runs.{LeavesOnly, Quiet}
 use Rattle.sg_disk.specs.Contents.{Contents, StoredFile, Change, IsPlay, IsLawful, IsSnapshot, IsInside, Amid, changed, played}
 use Rattle.sg_disk.specs.StandsFor.{IsOpen, StandsFor, Either, StandsForOne, Two, Settled, Between}
-use Rattle.sg_disk.specs.declared.places.TheConstants.{MAX_PLAYS}
+use Rattle.sg_base.specs.declared.limits.TheConstants.{MAX_PLAYS}
 use Rattle.sg_disk.proofs.Moments.{at_end}
 
 -- what a read gives stands for one of them

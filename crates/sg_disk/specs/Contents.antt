@@ -3,7 +3,8 @@ use Rattle.std.specs.Prelude.{◌≡◌, ◌⊎◌, ℕ, ◌+◌, ◌%◌, ◌^�
 use Rattle.std.specs.List.{flat_map}
 use Rattle.sg_base.specs.declared.file.Listed.{Listed}
 use Rattle.sg_base.specs.declared.play.PlayBody.{PlayBody}
-use Rattle.sg_disk.specs.declared.places.TheConstants.{DATA, ROOM_UNIT, MAX_ROOM, MAX_FILES, MAX_TEXT, MAX_FILE_LEN, MAX_PLAYS}
+use Rattle.sg_base.specs.declared.limits.TheConstants.{LAST_MOMENT, ROOM_UNIT, MAX_ROOM, MANIFEST_FILES, MANIFEST_TEXT, MAX_FILE_LEN, MAX_PLAYS}
+use Rattle.sg_disk.specs.declared.places.TheConstants.{DATA}
 
 -- so many bytes of the disk at a place
 pub record Segment : Type 0 where
@@ -46,7 +47,7 @@ IsInside room s = (DATA ≤ s.place) × (s.place + s.size ≤ DATA + room)
 
 -- the files of a table are by ascending id, each with a length within its limit and a digest of 16 bytes
 pub record AreListed (files : List StoredFile) : Type 0 where
-  pub few : length files ≤ MAX_FILES
+  pub few : length files ≤ MANIFEST_FILES
   pub ids : All (λ f. (1 ≤ f.listed.media.0) × (f.listed.media.0 < 2 ^ 32)) files
   pub ascending : AllPairs (λ f g. f.listed.media.0 < g.listed.media.0) files
   pub lengths : All (λ f. (1 ≤ f.listed.length) × (f.listed.length ≤ MAX_FILE_LEN)) files
@@ -59,7 +60,7 @@ IsExtent f = (place : ℕ) × (f.segments ≡ record { place = place; size = f.l
 -- an opening finds no fault in a slot with this number, text and table
 pub record IsSnapshot (room number : ℕ) (text : List ℕ) (files : List StoredFile) : Type 0 where
   pub numbered : (1 ≤ number) × (number < 2 ^ 32)
-  pub long : (1 ≤ length text) × (length text ≤ MAX_TEXT)
+  pub long : (1 ≤ length text) × (length text ≤ MANIFEST_TEXT)
   pub listed : AreListed files
   pub extents : All IsExtent files
   pub inside : All (λ f. All (IsInside room) f.segments) files
@@ -77,14 +78,15 @@ pub record IsPlay (play : PlayBody) : Type 0 where
   pub event : play.event < 2 ^ 32
   pub layout : (1 ≤ play.layout) × (play.layout < 2 ^ 32)
   pub rises : play.from < play.to
-  pub in_range : play.to ≤ 4102444799
+  pub in_range : play.to ≤ LAST_MOMENT
 
 -- lawful contents, which alone the clauses on contents speak of
 pub record IsLawful (p : Contents) : Type 0 where
   pub display : (1 ≤ p.display) × (p.display < 2 ^ 32)
   pub epoch : (1 ≤ p.epoch) × (p.epoch < 2 ^ 32)
   pub room : IsRoom p.room
-  pub snapshot : MatchOption p.text ((p.number ≡ 0) × (p.files ≡ [])) (λ text. IsSnapshot p.room p.number text p.files)
+  pub snapshot : MatchOption p.text ((p.number ≡ 0) × (p.files ≡ []))
+      (λ text. IsSnapshot p.room p.number text p.files)
   pub plays : All IsPlay p.plays
   pub few : length p.plays ≤ MAX_PLAYS
   pub floor : 1 ≤ p.floor

@@ -43,14 +43,16 @@ Fits first (call ∷ before) = (end_of call ≤ length (read_of first before)) �
 -- what a crash may leave after these calls
 abbrev pub ImageOf : List ℕ → List Call → List ℕ → Type 0
 ImageOf first [] c = c ≡ first
-ImageOf first (Write place written ∷ before) c = (d : List ℕ) × ImageOf first before d × Torn place (length written.items) d c
+ImageOf first (Write place written ∷ before) c = (d : List ℕ) × ImageOf first before d
+    × Torn place (length written.items) d c
 ImageOf first (Resize n ∷ before) c = (d : List ℕ) × ImageOf first before d × Resized n d c
 ImageOf first (Sync ∷ before) c = c ≡ read_of first before
 
 -- what a crash after at least the first t of these calls may have left
 abbrev pub ImageSince : List ℕ → List Call → ℕ → List ℕ → Type 0
 ImageSince first [] t c = ImageOf first [] c
-ImageSince first (call ∷ before) t c = ImageOf first (call ∷ before) c ⊎ ((t ≤ length before) × ImageSince first before t c)
+ImageSince first (call ∷ before) t c = ImageOf first (call ∷ before) c
+    ⊎ ((t ≤ length before) × ImageSince first before t c)
 
 -- an image after one call that no sync followed: nothing of it was done, all of it, or each byte that it wrote is one
 abbrev pub torn_by : Pick → Call → List ℕ → List ℕ

@@ -10,7 +10,8 @@ use Rattle.sg_disk.specs.declared.memory.MemDisk.{MemDisk}
 
 -- it tells what a read gives, and every image that the disk model allows after the calls so far
 abbrev pub mem_view : MemDisk → View
-mem_view m = history_view m.log.first.items (reverse m.log.calls.items) m.log.fits m.faults (stop_of m.fuse)
+mem_view m = history_view m.log.first.items (reverse m.log.calls.items) m.log.fits m.faults
+    (stop_of m.fuse)
 
 -- the image that a pick names
 abbrev pub image_of : Pick → MemDisk → List ℕ

@@ -1,6 +1,8 @@
 -- Runs of calls: what a crash at any moment of them may leave.
 use Rattle.std.specs.Prelude.{◌≡◌, ◌⊎◌, ℕ, ◌≤◌, List}
-use Rattle.sg_disk.specs.View.{View, range, Torn, Rose, Lowers, Falls}
+use Rattle.sg_base.specs.Causes.{Rose}
+use Rattle.sg_base.specs.Stops.{Lowers, Falls}
+use Rattle.sg_disk.specs.View.{View, range, Torn}
 
 -- a crash at any moment since old leaves a disk that has P
 pub record LeavesOnly (P : List ℕ → Type 0) (old new : View) : Type 0 where

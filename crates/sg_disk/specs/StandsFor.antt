@@ -6,7 +6,8 @@ use Rattle.sg_base.specs.declared.play.PlayBody.{PlayBody}
 use Rattle.md5.specs.Md5.{md5}
 use Rattle.sg_disk.specs.View.{View, range}
 use Rattle.sg_disk.specs.Contents.{Segment, StoredFile, Contents, IsSnapshot, IsLawful}
-use Rattle.sg_disk.specs.declared.places.TheConstants.{HEADER_LEN, SLOT_ZERO, SLOT_ONE, SLOT_LEN, TABLE, TEXT, ENTRY_LEN, JOURNAL, JOURNAL_LEN, RECORDS, RECORD_LEN, DATA}
+use Rattle.sg_base.specs.declared.limits.TheConstants.{JOURNAL_RECORDS}
+use Rattle.sg_disk.specs.declared.places.TheConstants.{FIELDS, HEADER_LEN, VERSION, MARK, DISPLAY, EPOCH, ROOM, SLOT_ZERO, SLOT_ONE, SLOT_LEN, NUMBER, TEXT_LEN, COUNT, TABLE, TEXT, ENTRY_LEN, JOURNAL, JOURNAL_LEN, RECORD_LEN, DATA}
 
 -- numbers stand low byte first
 unfoldable pub le32 : ℕ → List ℕ
@@ -18,11 +19,11 @@ le64 n = to_le_bytes w64 n
 -- the header: an open gate, the version, the mark, and the fields
 pub record IsHeader (display epoch room : ℕ) (header : List ℕ) : Type 0 where
   pub gate : slice_index header 0 ≡ 1
-  pub version : range header 4 4 ≡ le32 1
-  pub mark : range header 8 8 ≡ codes "SGNSTORE"
-  pub display_is : range header 16 4 ≡ le32 display
-  pub epoch_is : range header 20 4 ≡ le32 epoch
-  pub room_is : range header 24 8 ≡ le64 room
+  pub version : range header VERSION 4 ≡ le32 1
+  pub mark : range header MARK 8 ≡ codes "SGNSTORE"
+  pub display_is : range header DISPLAY 4 ≡ le32 display
+  pub epoch_is : range header EPOCH 4 ≡ le32 epoch
+  pub room_is : range header ROOM 8 ≡ le64 room
 
 -- where a file begins
 abbrev pub place_of : List Segment → ℕ
@@ -31,13 +32,15 @@ place_of (s ∷ segments) = s.place
 
 -- a table entry: medium, length, MD5 and place
 unfoldable pub entry : StoredFile → List ℕ
-entry f = le32 f.listed.media.0 ++ le32 f.listed.length ++ f.listed.md5 ++ le64 (place_of f.segments)
+entry f = le32 f.listed.media.0 ++ le32 f.listed.length ++ f.listed.md5
+    ++ le64 (place_of f.segments)
 
 -- the fields of a slot, without its gate
-pub record HasFields (number : ℕ) (text : List ℕ) (files : List StoredFile) (slot : List ℕ) : Type 0 where
-  pub number_is : range slot 4 4 ≡ le32 number
-  pub long : range slot 8 4 ≡ le32 (length text)
-  pub count : range slot 12 4 ≡ le32 (length files)
+pub record HasFields (number : ℕ) (text : List ℕ) (files : List StoredFile)
+    (slot : List ℕ) : Type 0 where
+  pub number_is : range slot NUMBER 4 ≡ le32 number
+  pub long : range slot TEXT_LEN 4 ≡ le32 (length text)
+  pub count : range slot COUNT 4 ≡ le32 (length files)
   pub table : range slot TABLE (ENTRY_LEN * length files) ≡ flat_map entry files
   pub text_is : range slot TEXT (length text) ≡ text
 
@@ -47,10 +50,13 @@ IsOpen slot = slice_index slot 0 ≡ 1
 
 -- The slot that isn't current: where it is open it has a lower number, and an opening finds no fault in it
 abbrev pub IsOther : ℕ → ℕ → List ℕ → Type 0
-IsOther room number slot = IsOpen slot → (lower : ℕ) × (text : List ℕ) × (files : List StoredFile) × (lower < number) × HasFields lower text files slot × IsSnapshot room lower text files
+IsOther room number slot = IsOpen slot
+    → (lower : ℕ) × (text : List ℕ) × (files : List StoredFile) × (lower < number)
+    × HasFields lower text files slot × IsSnapshot room lower text files
 
 -- the current slot and the other one
-pub record IsCurrent (room number : ℕ) (text : List ℕ) (files : List StoredFile) (current other : List ℕ) : Type 0 where
+pub record IsCurrent (room number : ℕ) (text : List ℕ) (files : List StoredFile)
+    (current other : List ℕ) : Type 0 where
   pub gate : IsOpen current
   pub fields : HasFields number text files current
   pub rest : IsOther room number other
@@ -81,20 +87,24 @@ gate area k = slice_index area (RECORD_LEN * k)
 
 -- the bytes behind its gate and the three after it
 abbrev pub body : List ℕ → ℕ → List ℕ
-body area k = range area (RECORD_LEN * k + 4) 60
+body area k = range area (RECORD_LEN * k + FIELDS) (RECORD_LEN - FIELDS)
 
 -- a record's bytes from 4 on: number, event, layout, from, to, epoch, and zeros
 unfoldable pub fields : ℕ → ℕ → PlayBody → List ℕ
-fields epoch number play = le32 number ++ le32 play.event ++ le32 play.layout ++ le32 play.from ++ le32 play.to ++ le32 epoch ++ replicate 36 0
+fields epoch number play = le32 number ++ le32 play.event ++ le32 play.layout ++ le32 play.from
+    ++ le32 play.to ++ le32 epoch ++ replicate 36 0
 
 -- The open records are the plays from a number on. Play n stands in record n - 1 modulo the number of records
 pub record HoldsPlays (epoch from : ℕ) (plays : List PlayBody) (area : List ℕ) : Type 0 where
   pub starts : 1 ≤ from
   pub within : from ≤ length plays + 1
   pub last : 0 < length plays → from ≤ length plays
-  pub ring : length plays < from + RECORDS
-  pub held : (i : ℕ) (play : PlayBody) → from ≤ i + 1 → slice_get plays i ≡ Some play → (gate area (i % RECORDS) ≡ 1) × (body area (i % RECORDS) ≡ fields epoch (i + 1) play)
-  pub open_only : (k : ℕ) → k < RECORDS → gate area k ≡ 1 → (i : ℕ) × (from ≤ i + 1) × (i < length plays) × (i % RECORDS ≡ k)
+  pub ring : length plays < from + JOURNAL_RECORDS
+  pub held : (i : ℕ) (play : PlayBody) → from ≤ i + 1 → slice_get plays i ≡ Some play
+      → (gate area (i % JOURNAL_RECORDS) ≡ 1)
+      × (body area (i % JOURNAL_RECORDS) ≡ fields epoch (i + 1) play)
+  pub open_only : (k : ℕ) → k < JOURNAL_RECORDS → gate area k ≡ 1
+      → (i : ℕ) × (from ≤ i + 1) × (i < length plays) × (i % JOURNAL_RECORDS ≡ k)
 
 -- the journal holds the plays from some number on that isn't above the floor
 abbrev pub IsJournal : ℕ → List PlayBody → ℕ → List ℕ → Type 0
@@ -108,7 +118,8 @@ pub record StandsFor (p : Contents) (c : List ℕ) : Type 0 where
   pub lawful : IsLawful p
   pub size : length c ≡ DATA + p.room
   pub header : IsHeader p.display p.epoch p.room (range c 0 HEADER_LEN)
-  pub slots : AreSlots p.room p.number p.text p.files (range c SLOT_ZERO SLOT_LEN) (range c SLOT_ONE SLOT_LEN)
+  pub slots : AreSlots p.room p.number p.text p.files (range c SLOT_ZERO SLOT_LEN)
+      (range c SLOT_ONE SLOT_LEN)
   pub journal : IsJournal p.epoch p.plays p.floor (journal_of c)
   pub files : AreFiles p.files (range c DATA p.room)
 

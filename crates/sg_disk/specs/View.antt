@@ -1,5 +1,7 @@
 -- A disk as contracts see it, and what each call does to it.
-use Rattle.std.specs.Prelude.{◌≡◌, ◌⊎◌, ℕ, ◌+◌, ◌-◌, ◌^◌, ◌≤◌, min, List, ◌++◌, length, take, drop, Option, None, Some}
+use Rattle.std.specs.Prelude.{◌≡◌, ◌⊎◌, ℕ, ◌+◌, ◌≤◌, min, List, ◌++◌, length, take, drop, Option}
+use Rattle.sg_base.specs.Causes.{Rose}
+use Rattle.sg_base.specs.Stops.{Lowers, Falls, LowersByOne}
 
 -- All that a contract can say of a disk. The last four fields are laws that every disk keeps
 pub record View : Type 1 where
@@ -60,29 +62,12 @@ Written place written old new = new ≡ put old place written
 abbrev pub Follows : (List ℕ → List ℕ → Type 0) → View → View → Type 0
 Follows step old new = (c : List ℕ) → new.images c → (d : List ℕ) × old.images d × step d c
 
--- the count of faults has risen, or stands at the end of its type
-abbrev pub Rose : ℕ → ℕ → Type 0
-Rose before now = min (before + 1) (2 ^ 64 - 1) ≤ now
-
 -- Time goes on. A crash since t left what it left before, or what it may leave now
 pub record Elapses (old new : View) : Type 0 where
   pub later : old.moment ≤ new.moment
-  pub nothing_else : (t : ℕ) (c : List ℕ) → t ≤ old.moment → new.since t c → old.since t c ⊎ new.images c
+  pub nothing_else : (t : ℕ) (c : List ℕ) → t ≤ old.moment → new.since t c
+      → old.since t c ⊎ new.images c
   pub keeps : (t : ℕ) (c : List ℕ) → t ≤ old.moment → old.since t c → new.since t c
-
--- at least n calls passed, and a stop is told exactly where one was
-pub record Lowers (n : ℕ) (before now : Option ℕ) : Type 0 where
-  pub none : before ≡ None → now ≡ None
-  pub some : (k : ℕ) → before ≡ Some k → (j : ℕ) × (now ≡ Some j) × (j + n ≤ k)
-
--- a call failed: the stop is no higher, or is told no more
-pub record Falls (before now : Option ℕ) : Type 0 where
-  pub none : before ≡ None → now ≡ None
-  pub some : (k : ℕ) → before ≡ Some k → (now ≡ None) ⊎ ((j : ℕ) × (now ≡ Some j) × (j ≤ k))
-
--- a call lowers a stop above 0 by one
-abbrev pub LowersByOne : Option ℕ → Option ℕ → Type 0
-LowersByOne before now = (k : ℕ) → before ≡ Some (k + 1) → now ≡ Some k
 
 -- One call that passed. What a read gives went one exact step, and each image a torn one.
 -- At a stop of 0 no call passes

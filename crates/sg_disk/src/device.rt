@@ -22,7 +22,8 @@ pub trait Disk {
     /// Reads the bytes at a place.
     fn read(&mut self, place: u64, into: &mut [u8]) -> Result<(), DiskFailed>
         requires { place + length into.old ≤ (view self.old).size }
-        ensures ok { OnOk result ((view self.old).told → into.new ≡ range (view self.old).bytes place (length into.old)) }
+        ensures ok { OnOk result ((view self.old).told
+            → into.new ≡ range (view self.old).bytes place (length into.old)) }
         ensures passed { OnOk result (Passed Same Same (view self.old) (view self.new)) }
         ensures failed { OnErr result (Failed Same (view self.old) (view self.new)) }
         ensures size { (view self.new).size ≡ (view self.old).size };
@@ -30,19 +31,23 @@ pub trait Disk {
     /// Writes over the bytes at a place. Until a sync, a crash may leave any bytes there.
     fn write_at(&mut self, place: u64, bytes: &[u8]) -> Result<(), DiskFailed>
         requires { place + length bytes.now ≤ (view self.old).size }
-        ensures passed { OnOk result (Passed (Written place bytes.now) (Torn place (length bytes.now)) (view self.old) (view self.new)) }
-        ensures failed { OnErr result (Failed (Torn place (length bytes.now)) (view self.old) (view self.new)) }
+        ensures passed { OnOk result (Passed (Written place bytes.now)
+            (Torn place (length bytes.now)) (view self.old) (view self.new)) }
+        ensures failed { OnErr result (Failed (Torn place (length bytes.now)) (view self.old)
+            (view self.new)) }
         ensures size { (view self.new).size ≡ (view self.old).size };
 
     /// Gives the disk a length, with the front as it was. Until a sync, a crash may leave the old length.
     fn resize(&mut self, len: u64) -> Result<(), DiskFailed>
-        ensures passed { OnOk result (Passed (Sized len) (Resized len) (view self.old) (view self.new)) }
+        ensures passed { OnOk result (Passed (Sized len) (Resized len) (view self.old)
+            (view self.new)) }
         ensures failed { OnErr result (Failed (Resized len) (view self.old) (view self.new)) }
         ensures size { OnOk result ((view self.new).size ≡ len) };
 
     /// After it a crash leaves what a read gives.
     fn sync(&mut self) -> Result<(), DiskFailed>
-        ensures durable { OnOk result ((view self.old).told → Only (view self.old).bytes (view self.new)) }
+        ensures durable { OnOk result ((view self.old).told
+            → Only (view self.old).bytes (view self.new)) }
         ensures passed { OnOk result (Passed Same Same (view self.old) (view self.new)) }
         ensures failed { OnErr result (Failed Same (view self.old) (view self.new)) }
         ensures size { (view self.new).size ≡ (view self.old).size };

@@ -1,6 +1,6 @@
 // When the calls of a disk in memory fail.
 ghost use Rattle.std.specs.Prelude.{◌≡◌, ◌+◌, ◌↔◌, ℕ, Some};
-ghost use Rattle.sg_disk.specs.View.{Lowers, Falls, LowersByOne};
+ghost use Rattle.sg_base.specs.Stops.{Lowers, Falls, LowersByOne};
 ghost use Rattle.sg_disk.specs.Fuse.{stop_of};
 
 /// What befalls the calls to come.
@@ -35,7 +35,8 @@ impl Fuse {
         ensures above { (k : ℕ) → stop_of self.old ≡ Some (k + 1) → result ≡ Fate.Passes }
         ensures idle { self.old ≡ Fuse.Idle → result ≡ Fate.Passes }
         ensures met { self.old ≡ Fuse.Crash 0 → (result ≡ Fate.Meets) × (self.new ≡ Fuse.Crashed) }
-        ensures crashed { self.old ≡ Fuse.Crashed → (result ≡ Fate.Fails) × (self.new ≡ Fuse.Crashed) }
+        ensures crashed { self.old ≡ Fuse.Crashed → (result ≡ Fate.Fails)
+            × (self.new ≡ Fuse.Crashed) }
         ensures failed { self.old ≡ Fuse.Fault 0 → (result ≡ Fate.Fails) × (self.new ≡ Fuse.Idle) }
     {
         let (fate, left) = match *self {

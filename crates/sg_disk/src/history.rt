@@ -67,8 +67,11 @@ fn apply(bytes: &mut Vec<u8>, call: &Call)
 // Makes these calls in order, where there is room.
 #[tactic(auto, using(crate::proofs::Steps::fold_more))]
 fn replay(bytes: &mut Vec<u8>, calls: &[Call])
-    requires fits { (k : ℕ) (d : Call) → k < length calls.now → end_of (slice_index_or calls.now k d) ≤ length (replayed bytes.old.items (take k calls.now)) }
-    requires room { (k : ℕ) (d : Call) → k < length calls.now → room_of (slice_index_or calls.now k d) ≤ vec_capacity bytes.old }
+    requires fits { (k : ℕ) (d : Call) → k < length calls.now
+        → end_of (slice_index_or calls.now k d)
+        ≤ length (replayed bytes.old.items (take k calls.now)) }
+    requires room { (k : ℕ) (d : Call) → k < length calls.now
+        → room_of (slice_index_or calls.now k d) ≤ vec_capacity bytes.old }
     ensures { bytes.new.items ≡ replayed bytes.old.items calls.now }
 {
     for call in calls {
@@ -103,7 +106,9 @@ fn tear(bytes: &mut Vec<u8>, call: &Call, pick: Pick) -> Result<(), AllocError>
 // Makes what a crash leaves of these calls in order.
 #[tactic(auto, using(crate::proofs::Steps::fold_more))]
 fn tear_all(bytes: &mut Vec<u8>, calls: &[Call], pick: Pick) -> Result<(), AllocError>
-    requires { (k : ℕ) (d : Call) → k < length calls.now → end_by pick (slice_index_or calls.now k d) ≤ length (torn_replayed pick bytes.old.items (take k calls.now)) }
+    requires { (k : ℕ) (d : Call) → k < length calls.now
+        → end_by pick (slice_index_or calls.now k d)
+        ≤ length (torn_replayed pick bytes.old.items (take k calls.now)) }
     ensures { OnOk result (bytes.new.items ≡ torn_replayed pick bytes.old.items calls.now) }
 {
     for call in calls {
@@ -114,7 +119,8 @@ fn tear_all(bytes: &mut Vec<u8>, calls: &[Call], pick: Pick) -> Result<(), Alloc
 
 // The greatest length that these calls ask for.
 fn longest(calls: &[Call]) -> u64
-    ensures { (k : ℕ) (d : Call) → k < length calls.now → room_of (slice_index_or calls.now k d) ≤ result }
+    ensures { (k : ℕ) (d : Call) → k < length calls.now
+        → room_of (slice_index_or calls.now k d) ≤ result }
 {
     let mut most = 0;
     for call in calls {
@@ -177,9 +183,11 @@ impl Log {
 
     /// Writes over the bytes at a place. Without memory nothing changes.
     pub fn write(&mut self, alloc: Global, place: u64, bytes: &[u8]) -> Result<(), AllocError>
-        requires { place + length bytes.now ≤ length (read_of self.old.first.items (reverse self.old.calls.items)) }
+        requires { place + length bytes.now ≤ length
+            (read_of self.old.first.items (reverse self.old.calls.items)) }
         ensures first { self.new.first ≡ self.old.first }
-        ensures noted { OnOk result ((written : Vec ℕ Global) × (written.items ≡ bytes.now) × (self.new.calls.items ≡ self.old.calls.items ++ Call.Write place written ∷ [])) }
+        ensures noted { OnOk result ((written : Vec ℕ Global) × (written.items ≡ bytes.now)
+            × (self.new.calls.items ≡ self.old.calls.items ++ Call.Write place written ∷ [])) }
         ensures err { OnErr result (self.new.calls.items ≡ self.old.calls.items) }
     {
         let written = Vec::from_slice(alloc, bytes)?;
@@ -194,7 +202,8 @@ impl Log {
     /// Gives the disk a length, with zeros behind the old end. Without memory nothing changes.
     pub fn resize(&mut self, len: u64) -> Result<(), AllocError>
         ensures first { self.new.first ≡ self.old.first }
-        ensures noted { OnOk result (self.new.calls.items ≡ self.old.calls.items ++ Call.Resize len ∷ []) }
+        ensures noted { OnOk result (self.new.calls.items ≡ self.old.calls.items
+            ++ Call.Resize len ∷ []) }
         ensures err { OnErr result (self.new.calls.items ≡ self.old.calls.items) }
     {
         let count = self.calls.len();
@@ -211,7 +220,8 @@ impl Log {
     /// Makes all bytes stable. Without memory nothing changes.
     pub fn sync(&mut self) -> Result<(), AllocError>
         ensures first { self.new.first ≡ self.old.first }
-        ensures noted { OnOk result (self.new.calls.items ≡ self.old.calls.items ++ Call.Sync ∷ []) }
+        ensures noted { OnOk result (self.new.calls.items ≡ self.old.calls.items
+            ++ Call.Sync ∷ []) }
         ensures err { OnErr result (self.new.calls.items ≡ self.old.calls.items) }
     {
         let room = longest(&self.calls[self.synced..]) as usize;
@@ -224,7 +234,8 @@ impl Log {
 
     /// One of the images that a crash may leave now.
     pub fn image(&self, alloc: Global, pick: Pick) -> Result<Vec<u8>, AllocError>
-        ensures { IfOk result (λ image. image.items ≡ picked pick self.now.first.items (reverse self.now.calls.items)) }
+        ensures { IfOk result (λ image. image.items
+            ≡ picked pick self.now.first.items (reverse self.now.calls.items)) }
     {
         let mut image = self.stable.as_slice().to_vec(alloc)?;
         tear_all(&mut image, &self.calls[self.synced..], pick)?;

@@ -1,6 +1,8 @@
 // A disk in memory.
 ghost use Rattle.std.specs.Prelude.{◌≡◌, ◌≢◌, ◌+◌, ◌≤◌, [], length, min, Contains, OnOk, OnErr, IfOk, IsOk};
-ghost use Rattle.sg_disk.specs.View.{range, Same, Passed, Failed, Only, Lowers, Falls, LowersByOne, Rose};
+ghost use Rattle.sg_base.specs.Causes.{Rose};
+ghost use Rattle.sg_base.specs.Stops.{Lowers, Falls, LowersByOne};
+ghost use Rattle.sg_disk.specs.View.{range, Same, Passed, Failed, Only};
 ghost use Rattle.sg_disk.specs.Fuse.{stop_of};
 
 use crate::device::{Disk, DiskFailed};
@@ -105,10 +107,12 @@ impl MemDisk {
     fn begin(&mut self) -> Fate
         ensures log { self.new.log ≡ self.old.log }
         ensures faults { self.new.faults ≡ self.old.faults }
-        ensures passes { result ≡ Fate.Passes → Lowers 1 (stop_of self.old.fuse) (stop_of self.new.fuse) }
+        ensures passes { result ≡ Fate.Passes → Lowers 1 (stop_of self.old.fuse)
+            (stop_of self.new.fuse) }
         ensures falls { Falls (stop_of self.old.fuse) (stop_of self.new.fuse) }
         ensures by_one { LowersByOne (stop_of self.old.fuse) (stop_of self.new.fuse) }
-        ensures idle { self.old.fuse ≡ Fuse.Idle → self.old.failing.items ≡ [] → result ≡ Fate.Passes }
+        ensures idle { self.old.fuse ≡ Fuse.Idle → self.old.failing.items ≡ []
+            → result ≡ Fate.Passes }
         ensures listed { Contains self.old.failing.items self.old.begun → result ≢ Fate.Passes }
         ensures begun { self.new.begun ≡ min (self.old.begun + 1) u64.MAX }
         ensures failing { self.new.failing ≡ self.old.failing }
@@ -153,7 +157,8 @@ impl Disk for MemDisk {
 
     fn read(&mut self, place: u64, into: &mut [u8]) -> Result<(), DiskFailed>
         requires { place + length into.old ≤ (mem_view self.old).size }
-        ensures ok { OnOk result ((mem_view self.old).told → into.new ≡ range (mem_view self.old).bytes place (length into.old)) }
+        ensures ok { OnOk result ((mem_view self.old).told
+            → into.new ≡ range (mem_view self.old).bytes place (length into.old)) }
         ensures passed { OnOk result (Passed Same Same (mem_view self.old) (mem_view self.new)) }
         ensures failed { OnErr result (Failed Same (mem_view self.old) (mem_view self.new)) }
         ensures size { (mem_view self.new).size ≡ (mem_view self.old).size }

@@ -1,6 +1,6 @@
 // A disk over a file of the operating system. It is the trusted edge: no contract can say what a file holds.
 ghost use Rattle.std.specs.Prelude.{◌≡◌, OnOk};
-ghost use Rattle.sg_disk.specs.View.{Rose};
+ghost use Rattle.sg_base.specs.Causes.{Rose};
 
 use crate::device::{Disk, DiskFailed};
 use std::fs::{File, OpenFile, OpenOptions};

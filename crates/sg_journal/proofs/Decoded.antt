@@ -8,7 +8,8 @@ use Rattle.sg_base.specs.declared.play.PlayBody.{PlayBody}
 use Rattle.sg_disk.specs.View.{range}
 use Rattle.sg_disk.specs.Contents.{IsPlay}
 use Rattle.sg_disk.specs.StandsFor.{le32, gate, body, fields}
-use Rattle.sg_disk.specs.declared.places.TheConstants.{RECORDS, RECORD_LEN}
+use Rattle.sg_base.specs.declared.limits.TheConstants.{LAST_MOMENT, MAX_PLAYS, JOURNAL_RECORDS}
+use Rattle.sg_disk.specs.declared.places.TheConstants.{RECORD_LEN}
 use Rattle.sg_disk.proofs.Ranges.{range-range, byte_in}
 use Rattle.sg_journal.specs.declared.record.Entry.{Entry}
 use Rattle.sg_journal.specs.declared.record.Wrong.{Wrong}
@@ -102,22 +103,22 @@ record_entry epoch number play bytes is =
     ∙ ap (λ (n : ℕ). made number play.event play.layout play.from n) is.to_is
 
 -- the tests that an opening makes
-own_true : (k number : ℕ) → 1 ≤ number → number < 4294967295 → (number - 1) % RECORDS ≡ k → is_own k number ≡ true
+own_true : (k number : ℕ) → 1 ≤ number → number ≤ MAX_PLAYS → (number - 1) % JOURNAL_RECORDS ≡ k → is_own k number ≡ true
 own_true k number low high own = grind (arith, nat_tests)
 
-pub own_parts : (k number : ℕ) → is_own k number ≡ true → (1 ≤ number) × (number < 4294967295) × ((number - 1) % RECORDS ≡ k)
+pub own_parts : (k number : ℕ) → is_own k number ≡ true → (1 ≤ number) × (number ≤ MAX_PLAYS) × ((number - 1) % JOURNAL_RECORDS ≡ k)
 own_parts k number own = grind (arith, nat_tests)
 
 cond_no : {A : Type 0} (b : Bool) (x y : A) → b ≡ false → cond b x y ≡ y
 cond_no b x y no_b = ap (λ (c : Bool). cond c x y) no_b
 
 -- nothing is wrong with it
-right_play : (bytes : List ℕ) → field bytes 16 < field bytes 20 → field bytes 20 ≤ 4102444799 → 1 ≤ field bytes 12 → wrong_play bytes ≡ None
+right_play : (bytes : List ℕ) → field bytes 16 < field bytes 20 → field bytes 20 ≤ LAST_MOMENT → 1 ≤ field bytes 12 → wrong_play bytes ≡ None
 right_play bytes rises late layout = grind (arith, nat_tests)
 
-pub right_record : (epoch number k : ℕ) (play : PlayBody) (bytes : List ℕ) → IsPlay play → 1 ≤ number → number < 4294967295 → (number - 1) % RECORDS ≡ k → IsRecord epoch number play bytes → wrong_at epoch k bytes ≡ None
+pub right_record : (epoch number k : ℕ) (play : PlayBody) (bytes : List ℕ) → IsPlay play → 1 ≤ number → number ≤ MAX_PLAYS → (number - 1) % JOURNAL_RECORDS ≡ k → IsRecord epoch number play bytes → wrong_at epoch k bytes ≡ None
 right_record epoch number k play bytes is low high own rec =
-    let owns : is_own k (field bytes 4) ≡ true = own_true k (field bytes 4) (omega (arith, low, rec.number_is)) (omega (arith, high, rec.number_is)) (ap (λ (n : ℕ). (n - 1) % RECORDS) rec.number_is ∙ own) in
+    let owns : is_own k (field bytes 4) ≡ true = own_true k (field bytes 4) (omega (arith, low, rec.number_is)) (omega (arith, high, rec.number_is)) (ap (λ (n : ℕ). (n - 1) % JOURNAL_RECORDS) rec.number_is ∙ own) in
     let same_epoch : eqb (field bytes 24) epoch ≡ true = eq-eqb (field bytes 24) epoch rec.epoch_is in
     let play_right = right_play bytes (omega (arith, rec.from_is, rec.to_is, is.rises)) (omega (arith, rec.to_is, is.in_range)) (omega (arith, rec.layout_is, is.layout.0)) in
     ap (λ (b : Bool). cond b (wrong_of epoch k bytes) None) (eq-eqb (slice_index bytes 0) 1 rec.gate_is)

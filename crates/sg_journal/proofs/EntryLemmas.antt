@@ -5,7 +5,7 @@ use Rattle.std.proofs.lemmas.Bool.Decides.{eqb_tells}
 use Rattle.std.proofs.lemmas.List.{get_or_read}
 use Rattle.std.proofs.lemmas.Option.{slice_get-get_or}
 use Rattle.sg_base.specs.declared.play.PlayBody.{PlayBody}
-use Rattle.sg_disk.specs.declared.places.TheConstants.{RECORDS}
+use Rattle.sg_base.specs.declared.limits.TheConstants.{MAX_PLAYS, JOURNAL_RECORDS}
 use Rattle.sg_journal.specs.declared.record.Entry.{Entry}
 use Rattle.sg_journal.specs.Records.{numbered}
 use Rattle.sg_journal.specs.Entries.{entry_at, AreOwn, held_by, IsStart, IsLeastStart, IsRun}
@@ -44,36 +44,36 @@ pub none_play : (o : Option PlayBody) → (IsSome o → ⊥) → o ≡ None
 none_play (Some play) h = absurd (h refl)
 none_play None h = refl
 
-record_below : (n : ℕ) → n % RECORDS < RECORDS
+record_below : (n : ℕ) → n % JOURNAL_RECORDS < JOURNAL_RECORDS
 record_below n = omega arith
 
 -- an entry's play is that of its number
-pub own_held : (entries : List (Option Entry)) (k : ℕ) (e : Entry) → AreOwn entries → k < RECORDS → entry_at entries k ≡ Some e → (1 ≤ e.number) × (held_by entries e.number ≡ Some e.play)
+pub own_held : (entries : List (Option Entry)) (k : ℕ) (e : Entry) → AreOwn entries → k < JOURNAL_RECORDS → entry_at entries k ≡ Some e → (1 ≤ e.number) × (held_by entries e.number ≡ Some e.play)
 own_held entries k e own lt is =
     let its = own.each k e lt is in
     (its.0, ap (λ (j : ℕ). numbered e.number (entry_at entries j)) its.2 ∙ ap (λ (o : Option Entry). numbered e.number o) is ∙ numbered_own e)
 
 -- a number that has a play is that of an entry
-pub held_entry : (entries : List (Option Entry)) (n : ℕ) → IsSome (held_by entries n) → (e : Entry) × (entry_at entries ((n - 1) % RECORDS) ≡ Some e) × (e.number ≡ n)
+pub held_entry : (entries : List (Option Entry)) (n : ℕ) → IsSome (held_by entries n) → (e : Entry) × (entry_at entries ((n - 1) % JOURNAL_RECORDS) ≡ Some e) × (e.number ≡ n)
 held_entry entries n some =
     let play = some_play (held_by entries n) some in
-    let has = numbered_some n (entry_at entries ((n - 1) % RECORDS)) play.0 play.1 in
+    let has = numbered_some n (entry_at entries ((n - 1) % JOURNAL_RECORDS)) play.0 play.1 in
     (has.entry, has.is, has.number_is)
 
-pub held_low : (entries : List (Option Entry)) (n : ℕ) (play : PlayBody) → AreOwn entries → held_by entries n ≡ Some play → (1 ≤ n) × (n < 4294967295)
+pub held_low : (entries : List (Option Entry)) (n : ℕ) (play : PlayBody) → AreOwn entries → held_by entries n ≡ Some play → (1 ≤ n) × (n ≤ MAX_PLAYS)
 held_low entries n play own held =
-    let has = numbered_some n (entry_at entries ((n - 1) % RECORDS)) play held in
-    let its = own.each ((n - 1) % RECORDS) has.entry (record_below (n - 1)) has.is in
+    let has = numbered_some n (entry_at entries ((n - 1) % JOURNAL_RECORDS)) play held in
+    let its = own.each ((n - 1) % JOURNAL_RECORDS) has.entry (record_below (n - 1)) has.is in
     let low : 1 ≤ has.entry.number = its.0 in
-    let high : has.entry.number < 4294967295 = its.1 in
+    let high : has.entry.number ≤ MAX_PLAYS = its.1 in
     (omega (arith, low, has.number_is), omega (arith, high, has.number_is))
 
 -- of two numbers of one record one has a play at most
-pub round_free : (entries : List (Option Entry)) (n : ℕ) (play : PlayBody) → held_by entries n ≡ Some play → 1 ≤ n → held_by entries (n + RECORDS) ≡ None
-round_free entries n play held low = none_play (held_by entries (n + RECORDS)) (λ some.
-    let one = numbered_some n (entry_at entries ((n - 1) % RECORDS)) play held in
-    let two = held_entry entries (n + RECORDS) some in
-    let same_record : (n + RECORDS - 1) % RECORDS ≡ (n - 1) % RECORDS = omega arith in
+pub round_free : (entries : List (Option Entry)) (n : ℕ) (play : PlayBody) → held_by entries n ≡ Some play → 1 ≤ n → held_by entries (n + JOURNAL_RECORDS) ≡ None
+round_free entries n play held low = none_play (held_by entries (n + JOURNAL_RECORDS)) (λ some.
+    let one = numbered_some n (entry_at entries ((n - 1) % JOURNAL_RECORDS)) play held in
+    let two = held_entry entries (n + JOURNAL_RECORDS) some in
+    let same_record : (n + JOURNAL_RECORDS - 1) % JOURNAL_RECORDS ≡ (n - 1) % JOURNAL_RECORDS = omega arith in
     let is : Some two.0 ≡ Some one.entry = sym two.1 ∙ ap (λ (k : ℕ). entry_at entries k) same_record ∙ one.is in
     let same : two.0 ≡ one.entry = cc in
     let number : two.0.number ≡ one.entry.number = ap (λ (e : Entry). e.number) same in
@@ -85,15 +85,15 @@ pub record Scanned (entries : List (Option Entry)) (above k : ℕ) (best : Optio
   pub start : (b : ℕ) → best ≡ Some b → IsStart entries above b
   pub least : (b : ℕ) → best ≡ Some b → (j : ℕ) (e : Entry) → j < k → entry_at entries j ≡ Some e → IsStart entries above e.number → b ≤ e.number
 
-pub scanned_end : (entries : List (Option Entry)) (above : ℕ) (best : Option ℕ) → AreOwn entries → Scanned entries above RECORDS best → MatchOption best ((n : ℕ) → IsStart entries above n → ⊥) (λ n. IsLeastStart entries above n)
+pub scanned_end : (entries : List (Option Entry)) (above : ℕ) (best : Option ℕ) → AreOwn entries → Scanned entries above JOURNAL_RECORDS best → MatchOption best ((n : ℕ) → IsStart entries above n → ⊥) (λ n. IsLeastStart entries above n)
 scanned_end entries above None own scanned = λ n start.
     let e = held_entry entries n start.held in
-    scanned.none refl ((n - 1) % RECORDS) e.0 (record_below (n - 1)) e.1 (subst (λ (m : ℕ). IsStart entries above m) (sym e.2) start)
+    scanned.none refl ((n - 1) % JOURNAL_RECORDS) e.0 (record_below (n - 1)) e.1 (subst (λ (m : ℕ). IsStart entries above m) (sym e.2) start)
 scanned_end entries above (Some b) own scanned = record {
   start = scanned.start b refl;
   least = λ n start.
       let e = held_entry entries n start.held in
-      let le : b ≤ e.0.number = scanned.least b refl ((n - 1) % RECORDS) e.0 (record_below (n - 1)) e.1 (subst (λ (m : ℕ). IsStart entries above m) (sym e.2) start) in
+      let le : b ≤ e.0.number = scanned.least b refl ((n - 1) % JOURNAL_RECORDS) e.0 (record_below (n - 1)) e.1 (subst (λ (m : ℕ). IsStart entries above m) (sym e.2) start) in
       omega (arith, le, e.2);
 }
 
@@ -158,7 +158,7 @@ pub if_some : {A : Type 0} (P : A → Type 0) (o : Option A) (x : A) → o ≡ S
 if_some P o x is holds = subst (λ (q : Option _). IfSome q P) is holds
 
 -- a run that goes through every record
-pub whole_run : (entries : List (Option Entry)) (first : ℕ) (plays : List PlayBody) → AreOwn entries → 1 ≤ first → length plays ≡ RECORDS → first + length plays ≤ 4294967295 → ((i : ℕ) (play : PlayBody) → slice_get plays i ≡ Some play → held_by entries (first + i) ≡ Some play) → IsRun entries first plays
+pub whole_run : (entries : List (Option Entry)) (first : ℕ) (plays : List PlayBody) → AreOwn entries → 1 ≤ first → length plays ≡ JOURNAL_RECORDS → first + length plays ≤ MAX_PLAYS + 1 → ((i : ℕ) (play : PlayBody) → slice_get plays i ≡ Some play → held_by entries (first + i) ≡ Some play) → IsRun entries first plays
 whole_run entries first plays own low long fits each =
     let nothing : PlayBody = record { event = 0; layout = 0; from = 0; to = 0 } in
     let zero_lt : 0 < length plays = omega (arith, long) in

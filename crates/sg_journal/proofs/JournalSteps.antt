@@ -7,7 +7,8 @@ use Rattle.sg_disk.specs.View.{View, range, put, Torn, Only}
 use Rattle.sg_disk.specs.Runs.{LeavesOnly, Within}
 use Rattle.sg_disk.specs.Contents.{Contents, IsPlay, IsLawful, played}
 use Rattle.sg_disk.specs.StandsFor.{gate, body, fields, HoldsPlays, IsJournal, journal_of, StandsFor, Either}
-use Rattle.sg_disk.specs.declared.places.TheConstants.{JOURNAL, JOURNAL_LEN, RECORDS, RECORD_LEN, DATA}
+use Rattle.sg_base.specs.declared.limits.TheConstants.{JOURNAL_RECORDS}
+use Rattle.sg_disk.specs.declared.places.TheConstants.{DATA, JOURNAL, JOURNAL_LEN, RECORD_LEN}
 use Rattle.sg_disk.proofs.Areas.{recorded}
 use Rattle.sg_disk.proofs.Standing.{settled_read, settled_by, settled_leaves, lawful_played}
 use Rattle.sg_disk.proofs.Moments.{joined, weaker}
@@ -19,16 +20,16 @@ use Rattle.sg_disk.proofs.Parts.{area_byte_written, area_range_written}
 use Rattle.sg_journal.proofs.Ring.{still_open, closed, filled, still_closed, opened}
 
 -- a record lies in the journal's area
-gate_in : (k : ℕ) → RECORD_LEN * (k % RECORDS) + 1 ≤ JOURNAL_LEN
+gate_in : (k : ℕ) → RECORD_LEN * (k % JOURNAL_RECORDS) + 1 ≤ JOURNAL_LEN
 gate_in k = omega arith
 
-fields_in : (k : ℕ) → RECORD_LEN * (k % RECORDS) + 4 + 60 ≤ JOURNAL_LEN
+fields_in : (k : ℕ) → RECORD_LEN * (k % JOURNAL_RECORDS) + 4 + 60 ≤ JOURNAL_LEN
 fields_in k = omega arith
 
-pub gate_within : (k place : ℕ) (v w : View) → place ≡ JOURNAL + RECORD_LEN * (k % RECORDS) → Within place 1 v w → Within JOURNAL JOURNAL_LEN v w
+pub gate_within : (k place : ℕ) (v w : View) → place ≡ JOURNAL + RECORD_LEN * (k % JOURNAL_RECORDS) → Within place 1 v w → Within JOURNAL JOURNAL_LEN v w
 gate_within k place v w at within = within_wider place 1 JOURNAL JOURNAL_LEN v w (omega arith) (omega arith) within
 
-pub fields_within : (k place n : ℕ) (v w : View) → n ≡ 60 → place ≡ JOURNAL + RECORD_LEN * (k % RECORDS) → Within (place + 4) n v w → Within JOURNAL JOURNAL_LEN v w
+pub fields_within : (k place n : ℕ) (v w : View) → n ≡ 60 → place ≡ JOURNAL + RECORD_LEN * (k % JOURNAL_RECORDS) → Within (place + 4) n v w → Within JOURNAL JOURNAL_LEN v w
 fields_within k place n v w long at within = within_wider (place + 4) n JOURNAL JOURNAL_LEN v w (omega arith) (omega arith) within
 
 fields_here : (v w : View) (place n k : ℕ) → n ≡ 60 → place ≡ JOURNAL + RECORD_LEN * k → Within (place + 4) n v w → Within (JOURNAL + (RECORD_LEN * k + 4)) 60 v w
@@ -36,7 +37,7 @@ fields_here v w place n k long at within =
     let here : place + 4 ≡ JOURNAL + (RECORD_LEN * k + 4) = omega (arith, at) in
     subst (λ (m : ℕ). Within m 60 v w) here (subst (λ (l : ℕ). Within (place + 4) l v w) long within)
 
-wide_bytes : (v w : View) (k place : ℕ) → place ≡ JOURNAL + RECORD_LEN * (k % RECORDS) → v.told → Within place 1 v w → Torn JOURNAL JOURNAL_LEN v.bytes w.bytes
+wide_bytes : (v w : View) (k place : ℕ) → place ≡ JOURNAL + RECORD_LEN * (k % JOURNAL_RECORDS) → v.told → Within place 1 v w → Torn JOURNAL JOURNAL_LEN v.bytes w.bytes
 wide_bytes v w k place at told within = let wide = gate_within k place v w at within in wide.bytes told
 
 -- the contents with other plays in the journal's area
@@ -45,17 +46,17 @@ stands_with p plays c d wide lawful journal stands = recorded p plays p.floor c 
 
 -- the record of the next play
 abbrev pub next_record : Journal → ℕ
-next_record j = (next_of j - 1) % RECORDS
+next_record j = (next_of j - 1) % JOURNAL_RECORDS
 
 -- what the closing of the oldest record needs: a round is full, and its play is acknowledged
 pub record IsFullRound (j : Journal) : Type 0 where
-  pub round : next_of j ≡ j.oldest + RECORDS
+  pub round : next_of j ≡ j.oldest + JOURNAL_RECORDS
   pub acknowledged : j.oldest < j.first
 
-pub full_round : (j : Journal) → RECORDS ≤ next_of j - j.oldest → next_of j < j.first + RECORDS → IsFullRound j
+pub full_round : (j : Journal) → JOURNAL_RECORDS ≤ next_of j - j.oldest → next_of j < j.first + JOURNAL_RECORDS → IsFullRound j
 full_round j long room = record { round = omega (arith, j.ring); acknowledged = omega (arith, j.ring) }
 
-oldest_at : (j : Journal) → IsFullRound j → (j.oldest - 1) % RECORDS ≡ next_record j
+oldest_at : (j : Journal) → IsFullRound j → (j.oldest - 1) % JOURNAL_RECORDS ≡ next_record j
 oldest_at j full = omega (arith, full.round, j.starts)
 
 closing_journal : (v : View) (j : Journal) (p : Contents) (area : List ℕ) → IsFullRound j → IsReady v j p → Torn (RECORD_LEN * next_record j) 1 (journal_of v.bytes) area → IsJournal p.epoch p.plays p.floor area
@@ -96,15 +97,15 @@ closing_ready v w j new place full oldest first epoch plays at size within writt
 
 -- what the recording of a play needs: its record is free, and it is a play
 pub record IsFree (j : Journal) (play : PlayBody) : Type 0 where
-  pub free : next_of j < j.oldest + RECORDS
+  pub free : next_of j < j.oldest + JOURNAL_RECORDS
   pub unspent : next_of j + 1 < 2 ^ 32
   pub is : IsPlay play
 
-free_next : (v : View) (j : Journal) (p : Contents) (play : PlayBody) → IsFree j play → IsReady v j p → length p.plays + 1 < j.oldest + RECORDS
+free_next : (v : View) (j : Journal) (p : Contents) (play : PlayBody) → IsFree j play → IsReady v j p → length p.plays + 1 < j.oldest + JOURNAL_RECORDS
 free_next v j p play free ready = omega (arith, free.free, ready.next)
 
-next_at : (v : View) (j : Journal) (p : Contents) → IsReady v j p → next_record j ≡ length p.plays % RECORDS
-next_at v j p ready = ap (λ (n : ℕ). (n - 1) % RECORDS) ready.next ∙ ap (λ (n : ℕ). n % RECORDS) (omega arith)
+next_at : (v : View) (j : Journal) (p : Contents) → IsReady v j p → next_record j ≡ length p.plays % JOURNAL_RECORDS
+next_at v j p ready = ap (λ (n : ℕ). (n - 1) % JOURNAL_RECORDS) ready.next ∙ ap (λ (n : ℕ). n % JOURNAL_RECORDS) (omega arith)
 
 -- the fields of the next play's record, at every moment
 filling_journal : (v : View) (j : Journal) (p : Contents) (play : PlayBody) (area : List ℕ) → IsFree j play → IsReady v j p → Torn (RECORD_LEN * next_record j + 4) 60 (journal_of v.bytes) area → HoldsPlays p.epoch j.oldest p.plays area
@@ -142,7 +143,7 @@ opening_journal : (v : View) (j : Journal) (p : Contents) (play : PlayBody) (are
 opening_journal v j p play area free ready has torn =
     let at = next_at v j p ready in
     let here = subst (λ (k : ℕ). Torn (RECORD_LEN * k) 1 (journal_of v.bytes) area) at torn in
-    let has_here : body (journal_of v.bytes) (length p.plays % RECORDS) ≡ fields p.epoch (length p.plays + 1) play = ap (λ (k : ℕ). body (journal_of v.bytes) k) (sym at) ∙ has ∙ ap (λ (e : ℕ). fields e (next_of j) play) ready.epoch ∙ ap (λ (n : ℕ). fields p.epoch n play) ready.next in
+    let has_here : body (journal_of v.bytes) (length p.plays % JOURNAL_RECORDS) ≡ fields p.epoch (length p.plays + 1) play = ap (λ (k : ℕ). body (journal_of v.bytes) k) (sym at) ∙ has ∙ ap (λ (e : ℕ). fields e (next_of j) play) ready.epoch ∙ ap (λ (n : ℕ). fields p.epoch n play) ready.next in
     elim (cases_eq (gate area (next_record j)) 1) [
       | inl stands ↦ inr (stands, opened p.epoch j.oldest p.plays play (journal_of v.bytes) area (free_next v j p play free ready) here has_here (ap (λ (k : ℕ). gate area k) (sym at) ∙ stands) ready.held)
       | inr shut ↦ inl (shut, still_closed p.epoch j.oldest p.plays (journal_of v.bytes) area (free_next v j p play free ready) here (λ now. shut (ap (λ (k : ℕ). gate area k) at ∙ now)) ready.held)

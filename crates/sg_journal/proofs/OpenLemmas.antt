@@ -2,7 +2,7 @@
 use Rattle.std.proofs.Common.{◌≡◌, ◌⊎◌, inl, inr, ℕ, zero, suc, ◌+◌, ◌-◌, ◌%◌, ◌<◌, ◌≤◌, List, length, Option, Some, None, IsSome, refl, sym, ◌∙◌, ap, subst, arith}
 use Rattle.std.proofs.lemmas.Bool.{cases_eq, cases_lt}
 use Rattle.sg_base.specs.declared.play.PlayBody.{PlayBody}
-use Rattle.sg_disk.specs.declared.places.TheConstants.{RECORDS}
+use Rattle.sg_base.specs.declared.limits.TheConstants.{JOURNAL_RECORDS}
 use Rattle.sg_journal.specs.declared.record.Entry.{Entry}
 use Rattle.sg_journal.specs.Records.{record_of, field, numbered, play_at, IsHeld, IsGap, IsFirstGap, Holds}
 use Rattle.sg_journal.specs.Entries.{AreRead, AreOwn, held_by, IsStart, IsRecovered, IsGapAt}
@@ -10,18 +10,18 @@ use Rattle.sg_journal.proofs.EntryLemmas.{some_play, none_play}
 use Rattle.sg_journal.proofs.Decoded.{entry_open, sound_own, own_parts}
 
 -- what was read without damage has each number in its own record
-pub read_own : (epoch : ℕ) (area : List ℕ) (entries : List (Option Entry)) → AreRead epoch RECORDS area entries → AreOwn entries
+pub read_own : (epoch : ℕ) (area : List ℕ) (entries : List (Option Entry)) → AreRead epoch JOURNAL_RECORDS area entries → AreOwn entries
 read_own epoch area entries are = record {
   count = are.count;
   each = λ k e lt is.
       let open_entry = entry_open (record_of area k) e (sym (are.each k lt) ∙ is) in
       let parts = own_parts k (field (record_of area k) 4) (sound_own epoch k (record_of area k) open_entry.0 (are.sound k lt)) in
-      (omega (arith, parts.0, open_entry.1), omega (arith, parts.1, open_entry.1), ap (λ (n : ℕ). (n - 1) % RECORDS) open_entry.1 ∙ parts.2);
+      (omega (arith, parts.0, open_entry.1), omega (arith, parts.1, open_entry.1), ap (λ (n : ℕ). (n - 1) % JOURNAL_RECORDS) open_entry.1 ∙ parts.2);
 }
 
 -- the plays of the entries are those of the area
-same_held : (epoch : ℕ) (area : List ℕ) (entries : List (Option Entry)) (n : ℕ) → AreRead epoch RECORDS area entries → held_by entries n ≡ play_at area n
-same_held epoch area entries n are = ap (λ (o : Option Entry). numbered n o) (are.each ((n - 1) % RECORDS) (omega arith))
+same_held : (epoch : ℕ) (area : List ℕ) (entries : List (Option Entry)) (n : ℕ) → AreRead epoch JOURNAL_RECORDS area entries → held_by entries n ≡ play_at area n
+same_held epoch area entries n are = ap (λ (o : Option Entry). numbered n o) (are.each ((n - 1) % JOURNAL_RECORDS) (omega arith))
 
 some_along : (o p : Option PlayBody) → o ≡ p → IsSome o → IsSome p
 some_along o p same some = subst (λ (q : Option PlayBody). IsSome q) same some
@@ -65,7 +65,7 @@ least_held entries first n least low some =
     omega (arith, le, s.1)
 
 -- a gap is a start above the first play
-gap_start : (epoch : ℕ) (area : List ℕ) (entries : List (Option Entry)) (first n : ℕ) → AreRead epoch RECORDS area entries → ((s : ℕ) → IsStart entries 0 s → first ≤ s) → IsGap area n → IsStart entries first n
+gap_start : (epoch : ℕ) (area : List ℕ) (entries : List (Option Entry)) (first n : ℕ) → AreRead epoch JOURNAL_RECORDS area entries → ((s : ℕ) → IsStart entries 0 s → first ≤ s) → IsGap area n → IsStart entries first n
 gap_start epoch area entries first n are least gap =
     let m = gap.lower in
     let m_low : 1 ≤ m.0 = m.2.0 in
@@ -78,7 +78,7 @@ gap_start epoch area entries first n are least gap =
     }
 
 -- the plays of an area without damage
-pub recovered_holds : (epoch first : ℕ) (area : List ℕ) (entries : List (Option Entry)) (plays : List PlayBody) → AreRead epoch RECORDS area entries → IsRecovered entries first plays → Holds epoch area first plays
+pub recovered_holds : (epoch first : ℕ) (area : List ℕ) (entries : List (Option Entry)) (plays : List PlayBody) → AreRead epoch JOURNAL_RECORDS area entries → IsRecovered entries first plays → Holds epoch area first plays
 recovered_holds epoch first area entries plays are rec = record {
   starts = rec.starts;
   sound = are.sound;
@@ -112,7 +112,7 @@ recovered_holds epoch first area entries plays are rec = record {
     ]
 
 -- the gap of an area
-pub gap_first : (epoch : ℕ) (area : List ℕ) (entries : List (Option Entry)) (place found : ℕ) → AreRead epoch RECORDS area entries → IsGapAt entries place found → IsFirstGap area place found
+pub gap_first : (epoch : ℕ) (area : List ℕ) (entries : List (Option Entry)) (place found : ℕ) → AreRead epoch JOURNAL_RECORDS area entries → IsGapAt entries place found → IsFirstGap area place found
 gap_first epoch area entries place found are at =
     let least = at.least in
     let next = at.next in

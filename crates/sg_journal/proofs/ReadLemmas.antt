@@ -8,7 +8,8 @@ use Rattle.sg_disk.specs.StandsFor.{journal_of}
 use Rattle.sg_disk.proofs.Ranges.{range-range}
 use Rattle.sg_disk.proofs.Moments.{ran_broke, ran_fewer, broke_one, quiet_one, quiet_joined}
 use Rattle.sg_disk.proofs.Parts.{range_more}
-use Rattle.sg_disk.specs.declared.places.TheConstants.{JOURNAL, JOURNAL_LEN, RECORDS, RECORD_LEN}
+use Rattle.sg_base.specs.declared.limits.TheConstants.{JOURNAL_RECORDS}
+use Rattle.sg_disk.specs.declared.places.TheConstants.{JOURNAL, JOURNAL_LEN, RECORD_LEN}
 use Rattle.sg_journal.specs.declared.fault.OpenFault.{OpenFault}
 use Rattle.sg_journal.specs.declared.fault.OpenFault.TheVariants.{Damaged, Disk, Memory}
 use Rattle.sg_journal.specs.declared.record.Entry.{Entry}
@@ -112,7 +113,7 @@ read_none epoch entries none = record {
 record_of_front : (c : List ℕ) (l k : ℕ) → RECORD_LEN * k + RECORD_LEN ≤ l → l ≤ JOURNAL_LEN → record_of (range c JOURNAL l) k ≡ record_of (journal_of c) k
 record_of_front c l k within le = range-range c JOURNAL l (RECORD_LEN * k) RECORD_LEN within ∙ sym (range-range c JOURNAL JOURNAL_LEN (RECORD_LEN * k) RECORD_LEN (omega (arith, within, le)))
 
-pub wrong_in_front : (epoch n l : ℕ) (c area : List ℕ) (place found : ℕ) → area ≡ range c JOURNAL l → l ≡ RECORD_LEN * n → n ≤ RECORDS → IsFirstWrong epoch n area place found → IsFirstWrong epoch RECORDS (journal_of c) place found
+pub wrong_in_front : (epoch n l : ℕ) (c area : List ℕ) (place found : ℕ) → area ≡ range c JOURNAL l → l ≡ RECORD_LEN * n → n ≤ JOURNAL_RECORDS → IsFirstWrong epoch n area place found → IsFirstWrong epoch JOURNAL_RECORDS (journal_of c) place found
 wrong_in_front epoch n l c area place found front long le first = record {
   k = first.k;
   wrong = first.wrong;

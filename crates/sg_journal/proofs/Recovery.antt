@@ -8,7 +8,8 @@ use Rattle.sg_disk.specs.View.{View, Only, Same, Passed}
 use Rattle.sg_disk.specs.Runs.{Ran, Quiet}
 use Rattle.sg_disk.specs.Contents.{Contents, IsPlay}
 use Rattle.sg_disk.specs.StandsFor.{HoldsPlays, journal_of, StandsFor}
-use Rattle.sg_disk.specs.declared.places.TheConstants.{JOURNAL, JOURNAL_LEN, RECORDS, MAX_PLAYS, OPEN_CALLS}
+use Rattle.sg_base.specs.declared.limits.TheConstants.{MAX_PLAYS, JOURNAL_RECORDS}
+use Rattle.sg_disk.specs.declared.places.TheConstants.{JOURNAL, JOURNAL_LEN, OPEN_CALLS}
 use Rattle.sg_disk.proofs.Moments.{quiet_only, ran_one, ran_joined, ran_fewer}
 use Rattle.sg_disk.proofs.Standing.{settled_by}
 use Rattle.sg_disk.proofs.Writes.{one_stable}
@@ -31,29 +32,29 @@ nothing : PlayBody
 nothing = record { event = 0; layout = 0; from = 0; to = 0 }
 
 -- the record of the play at i
-recorded_at : (epoch from : ℕ) (plays : List PlayBody) (area : List ℕ) (i : ℕ) → AreRecorded epoch from plays area → from ≤ i + 1 → i < length plays → IsRecord epoch (i + 1) (get_or plays i nothing) (record_of area (i % RECORDS))
+recorded_at : (epoch from : ℕ) (plays : List PlayBody) (area : List ℕ) (i : ℕ) → AreRecorded epoch from plays area → from ≤ i + 1 → i < length plays → IsRecord epoch (i + 1) (get_or plays i nothing) (record_of area (i % JOURNAL_RECORDS))
 recorded_at epoch from plays area i rec le lt =
     let holds = rec.holds in
     let held = holds.held i (get_or plays i nothing) le (slice_get-get_or plays i nothing lt) in
-    decoded epoch (i + 1) (i % RECORDS) (get_or plays i nothing) area (omega (arith, lt, rec.few)) rec.epoch_small (rec.are i nothing lt) held.0 held.1
+    decoded epoch (i + 1) (i % JOURNAL_RECORDS) (get_or plays i nothing) area (omega (arith, lt, rec.few)) rec.epoch_small (rec.are i nothing lt) held.0 held.1
 
 held_at : (epoch from : ℕ) (plays : List PlayBody) (area : List ℕ) (i : ℕ) → AreRecorded epoch from plays area → from ≤ i + 1 → i < length plays → play_at area (i + 1) ≡ Some (get_or plays i nothing)
 held_at epoch from plays area i rec le lt =
-    let same : (i + 1 - 1) % RECORDS ≡ i % RECORDS = ap (λ (n : ℕ). n % RECORDS) (omega arith) in
-    let entry = record_entry epoch (i + 1) (get_or plays i nothing) (record_of area (i % RECORDS)) (recorded_at epoch from plays area i rec le lt) in
+    let same : (i + 1 - 1) % JOURNAL_RECORDS ≡ i % JOURNAL_RECORDS = ap (λ (n : ℕ). n % JOURNAL_RECORDS) (omega arith) in
+    let entry = record_entry epoch (i + 1) (get_or plays i nothing) (record_of area (i % JOURNAL_RECORDS)) (recorded_at epoch from plays area i rec le lt) in
     ap (λ (k : ℕ). numbered (i + 1) (entry_of (record_of area k))) same ∙ ap (λ (o : Option Entry). numbered (i + 1) o) entry ∙ numbered_own (record { number = i + 1; play = get_or plays i nothing })
 
 -- a number that is held is one of them
 held_within : (epoch from : ℕ) (plays : List PlayBody) (area : List ℕ) (n : ℕ) → AreRecorded epoch from plays area → IsHeld area n → (from ≤ n) × (n ≤ length plays)
 held_within epoch from plays area n rec held =
-    let k : ℕ = (n - 1) % RECORDS in
+    let k : ℕ = (n - 1) % JOURNAL_RECORDS in
     let play = some_play (play_at area n) held.1 in
-    let has = numbered_some n (entry_of (record_of area ((n - 1) % RECORDS))) play.0 play.1 in
-    let opened = entry_open (record_of area ((n - 1) % RECORDS)) has.entry has.is in
+    let has = numbered_some n (entry_of (record_of area ((n - 1) % JOURNAL_RECORDS))) play.0 play.1 in
+    let opened = entry_open (record_of area ((n - 1) % JOURNAL_RECORDS)) has.entry has.is in
     let holds = rec.holds in
-    let one = holds.open_only ((n - 1) % RECORDS) (omega arith) (sym (gate_first area ((n - 1) % RECORDS)) ∙ opened.0) in
+    let one = holds.open_only ((n - 1) % JOURNAL_RECORDS) (omega arith) (sym (gate_first area ((n - 1) % JOURNAL_RECORDS)) ∙ opened.0) in
     let there = recorded_at epoch from plays area one.0 rec one.1 one.2 in
-    let number : field (record_of area ((n - 1) % RECORDS)) 4 ≡ one.0 + 1 = ap (λ (j : ℕ). field (record_of area j) 4) (sym one.3) ∙ there.number_is in
+    let number : field (record_of area ((n - 1) % JOURNAL_RECORDS)) 4 ≡ one.0 + 1 = ap (λ (j : ℕ). field (record_of area j) 4) (sym one.3) ∙ there.number_is in
     let lower : from ≤ one.0 + 1 = one.1 in
     let upper : one.0 < length plays = one.2 in
     (omega (arith, lower, number, opened.1, has.number_is), omega (arith, upper, number, opened.1, has.number_is))
@@ -65,14 +66,14 @@ is_held epoch from plays area n rec low le lt =
     (low, is_some_play (play_at area n) (get_or plays (n - 1) nothing) (ap (λ (m : ℕ). play_at area m) (sym at) ∙ is))
 
 -- nothing is wrong with such an area
-pub undamaged : (epoch from : ℕ) (plays : List PlayBody) (area : List ℕ) → AreRecorded epoch from plays area → AreSound epoch RECORDS area
+pub undamaged : (epoch from : ℕ) (plays : List PlayBody) (area : List ℕ) → AreRecorded epoch from plays area → AreSound epoch JOURNAL_RECORDS area
 undamaged epoch from plays area rec k lt = elim (cases_eq (slice_index (record_of area k) 0) 1) [
   | inl opened ↦
       let holds = rec.holds in
       let one = holds.open_only k lt (sym (gate_first area k) ∙ opened) in
       let there = recorded_at epoch from plays area one.0 rec one.1 one.2 in
       let upper : one.0 < length plays = one.2 in
-      let own : (one.0 + 1 - 1) % RECORDS ≡ k = ap (λ (n : ℕ). n % RECORDS) (omega arith) ∙ one.3 in
+      let own : (one.0 + 1 - 1) % JOURNAL_RECORDS ≡ k = ap (λ (n : ℕ). n % JOURNAL_RECORDS) (omega arith) ∙ one.3 in
       right_record epoch (one.0 + 1) k (get_or plays one.0 nothing) (record_of area k) (rec.are one.0 nothing one.2) (omega arith) (omega (arith, upper, rec.few)) own (subst (λ (j : ℕ). IsRecord epoch (one.0 + 1) (get_or plays one.0 nothing) (record_of area j)) one.3 there)
   | inr shut ↦ closed_right epoch k (record_of area k) shut
 ]
@@ -202,10 +203,10 @@ opened_ready w j r bytes told is only stands epoch oldest holds =
     )
 
 -- what was read of the disk behind the sync is what a read gave before it
-pub area_read : (v u : View) (epoch : ℕ) (area : List ℕ) (entries seen : List (Option Entry)) → v.told → Passed Same Same v u → (u.told → area ≡ journal_of u.bytes) → seen ≡ entries → AreRead epoch RECORDS area entries → AreRead epoch RECORDS (journal_of v.bytes) seen
+pub area_read : (v u : View) (epoch : ℕ) (area : List ℕ) (entries seen : List (Option Entry)) → v.told → Passed Same Same v u → (u.told → area ≡ journal_of u.bytes) → seen ≡ entries → AreRead epoch JOURNAL_RECORDS area entries → AreRead epoch JOURNAL_RECORDS (journal_of v.bytes) seen
 area_read v u epoch area entries seen told sync is same are =
     let area_is : area ≡ journal_of v.bytes = is (sync.told told) ∙ ap (λ (b : List ℕ). journal_of b) (sync.bytes told) in
-    subst (λ (a : List ℕ). AreRead epoch RECORDS a seen) area_is (subst (λ (l : List (Option Entry)). AreRead epoch RECORDS area l) (sym same) are)
+    subst (λ (a : List ℕ). AreRead epoch JOURNAL_RECORDS a seen) area_is (subst (λ (l : List (Option Entry)). AreRead epoch JOURNAL_RECORDS area l) (sym same) are)
 
 -- a fact that holds whatever was answered
 pub always_ok : {T E : Type 0} (r : Result T E) (P : Type 0) → P → OnOk r P
@@ -223,8 +224,8 @@ opening_only v u w k told durable quiet = quiet_only k u w v.bytes quiet (durabl
 pub opening_ran : (v u w : View) (k : ℕ) → 1 ≤ k → Passed Same Same v u → Quiet k u w → Ran OPEN_CALLS v w
 opening_ran v u w k some sync quiet = ran_fewer (1 + k) OPEN_CALLS v w (omega arith) (ran_joined 1 k v u w (ran_one Same Same v u sync) quiet.ran)
 
-pub wrong_before : (v u : View) (epoch place found : ℕ) → v.told → Passed Same Same v u → IsFirstWrong epoch RECORDS (journal_of u.bytes) place found → IsFirstWrong epoch RECORDS (journal_of v.bytes) place found
-wrong_before v u epoch place found told sync first = subst (λ (b : List ℕ). IsFirstWrong epoch RECORDS (journal_of b) place found) (sync.bytes told) first
+pub wrong_before : (v u : View) (epoch place found : ℕ) → v.told → Passed Same Same v u → IsFirstWrong epoch JOURNAL_RECORDS (journal_of u.bytes) place found → IsFirstWrong epoch JOURNAL_RECORDS (journal_of v.bytes) place found
+wrong_before v u epoch place found told sync first = subst (λ (b : List ℕ). IsFirstWrong epoch JOURNAL_RECORDS (journal_of b) place found) (sync.bytes told) first
 
 -- the bytes of such contents are not damaged
 pub stands_undamaged : (r : Contents) (c : List ℕ) (epoch place found : ℕ) → StandsFor r c → r.epoch ≡ epoch → FirstDamage epoch (journal_of c) place found → ⊥

@@ -6,7 +6,8 @@ use Rattle.std.proofs.lemmas.Option.{slice_get_within, slice_get-get_or, get_or_
 use Rattle.sg_base.specs.declared.play.PlayBody.{PlayBody}
 use Rattle.sg_disk.specs.View.{Torn}
 use Rattle.sg_disk.specs.StandsFor.{gate, body, fields, HoldsPlays}
-use Rattle.sg_disk.specs.declared.places.TheConstants.{RECORDS, RECORD_LEN}
+use Rattle.sg_base.specs.declared.limits.TheConstants.{JOURNAL_RECORDS}
+use Rattle.sg_disk.specs.declared.places.TheConstants.{RECORD_LEN}
 use Rattle.sg_disk.proofs.Ranges.{byte_kept, range_kept}
 
 -- a play of a longer list
@@ -52,7 +53,7 @@ nothing : PlayBody
 nothing = record { event = 0; layout = 0; from = 0; to = 0 }
 
 -- the oldest play's record is open
-oldest_open : (epoch from k : ℕ) (plays : List PlayBody) (area : List ℕ) → (from - 1) % RECORDS ≡ k → from ≤ length plays → HoldsPlays epoch from plays area → gate area k ≡ 1
+oldest_open : (epoch from k : ℕ) (plays : List PlayBody) (area : List ℕ) → (from - 1) % JOURNAL_RECORDS ≡ k → from ≤ length plays → HoldsPlays epoch from plays area → gate area k ≡ 1
 oldest_open epoch from k plays area at some holds =
     let starts : 1 ≤ from = holds.starts in
     let lt : from - 1 < length plays = omega arith in
@@ -60,7 +61,7 @@ oldest_open epoch from k plays area at some holds =
     subst (λ (j : ℕ). gate area j ≡ 1) at held.0
 
 -- the gate of the oldest record was written, and stands open
-pub still_open : (epoch from k : ℕ) (plays : List PlayBody) (area new : List ℕ) → (from - 1) % RECORDS ≡ k → from ≤ length plays → Torn (RECORD_LEN * k) 1 area new → gate new k ≡ 1 → HoldsPlays epoch from plays area → HoldsPlays epoch from plays new
+pub still_open : (epoch from k : ℕ) (plays : List PlayBody) (area new : List ℕ) → (from - 1) % JOURNAL_RECORDS ≡ k → from ≤ length plays → Torn (RECORD_LEN * k) 1 area new → gate new k ≡ 1 → HoldsPlays epoch from plays area → HoldsPlays epoch from plays new
 still_open epoch from k plays area new at some torn opened holds = record {
   starts = holds.starts;
   within = holds.within;
@@ -68,7 +69,7 @@ still_open epoch from k plays area new at some torn opened holds = record {
   ring = holds.ring;
   held = λ i play le is.
       let was = holds.held i play le is in
-      (gate_now (i % RECORDS) was.0, body_beside_gate k (i % RECORDS) area new torn ∙ was.1);
+      (gate_now (i % JOURNAL_RECORDS) was.0, body_beside_gate k (i % JOURNAL_RECORDS) area new torn ∙ was.1);
   open_only = λ j lt now. holds.open_only j lt (gate_was j now);
 }
   where
@@ -85,7 +86,7 @@ still_open epoch from k plays area new at some torn opened holds = record {
     ]
 
 -- it was closed, so that the records hold the plays behind the oldest
-pub closed : (epoch from k : ℕ) (plays : List PlayBody) (area new : List ℕ) → (from - 1) % RECORDS ≡ k → from < length plays → Torn (RECORD_LEN * k) 1 area new → gate new k ≢ 1 → HoldsPlays epoch from plays area → HoldsPlays epoch (from + 1) plays new
+pub closed : (epoch from k : ℕ) (plays : List PlayBody) (area new : List ℕ) → (from - 1) % JOURNAL_RECORDS ≡ k → from < length plays → Torn (RECORD_LEN * k) 1 area new → gate new k ≢ 1 → HoldsPlays epoch from plays area → HoldsPlays epoch (from + 1) plays new
 closed epoch from k plays area new at some torn shut holds = record {
   starts = omega arith;
   within = omega arith;
@@ -95,29 +96,29 @@ closed epoch from k plays area new at some torn shut holds = record {
   open_only = λ j lt now. open_still j lt now;
 }
   where
-    held_still : (i : ℕ) (play : PlayBody) → from + 1 ≤ i + 1 → slice_get plays i ≡ Some play → (gate new (i % RECORDS) ≡ 1) × (body new (i % RECORDS) ≡ fields epoch (i + 1) play)
+    held_still : (i : ℕ) (play : PlayBody) → from + 1 ≤ i + 1 → slice_get plays i ≡ Some play → (gate new (i % JOURNAL_RECORDS) ≡ 1) × (body new (i % JOURNAL_RECORDS) ≡ fields epoch (i + 1) play)
     held_still i play le is =
         let was = holds.held i play (omega arith) is in
         let lt : i < length plays = slice_get_within plays i play is in
         let starts : 1 ≤ from = holds.starts in
-        let ring : length plays < from + RECORDS = holds.ring in
-        let other : i % RECORDS ≢ k = λ same. omega arith in
-        (gate_of_other k (i % RECORDS) area new other torn ∙ was.0, body_beside_gate k (i % RECORDS) area new torn ∙ was.1)
+        let ring : length plays < from + JOURNAL_RECORDS = holds.ring in
+        let other : i % JOURNAL_RECORDS ≢ k = λ same. omega arith in
+        (gate_of_other k (i % JOURNAL_RECORDS) area new other torn ∙ was.0, body_beside_gate k (i % JOURNAL_RECORDS) area new torn ∙ was.1)
 
-    open_still : (j : ℕ) → j < RECORDS → gate new j ≡ 1 → (i : ℕ) × (from + 1 ≤ i + 1) × (i < length plays) × (i % RECORDS ≡ j)
+    open_still : (j : ℕ) → j < JOURNAL_RECORDS → gate new j ≡ 1 → (i : ℕ) × (from + 1 ≤ i + 1) × (i < length plays) × (i % JOURNAL_RECORDS ≡ j)
     open_still j lt now =
         let other : j ≢ k = λ same. shut (ap (λ (m : ℕ). gate new m) (sym same) ∙ now) in
         let was = holds.open_only j lt (sym (gate_of_other k j area new other torn) ∙ now) in
-        let is_other : was.0 % RECORDS ≢ (from - 1) % RECORDS = λ same. other (sym was.3 ∙ same ∙ at) in
-        let not_oldest : was.0 ≢ from - 1 = λ same. is_other (ap (λ (m : ℕ). m % RECORDS) same) in
+        let is_other : was.0 % JOURNAL_RECORDS ≢ (from - 1) % JOURNAL_RECORDS = λ same. other (sym was.3 ∙ same ∙ at) in
+        let not_oldest : was.0 ≢ from - 1 = λ same. is_other (ap (λ (m : ℕ). m % JOURNAL_RECORDS) same) in
         (was.0, omega (arith, was.1, not_oldest), was.2, was.3)
 
 -- The next play's record is free where less than a round is held
-free_record : (from n i : ℕ) → from ≤ i + 1 → i < n → n + 1 < from + RECORDS → i % RECORDS ≢ n % RECORDS
+free_record : (from n i : ℕ) → from ≤ i + 1 → i < n → n + 1 < from + JOURNAL_RECORDS → i % JOURNAL_RECORDS ≢ n % JOURNAL_RECORDS
 free_record from n i le lt free same = omega arith
 
 -- the fields of the next play's record were written
-pub filled : (epoch from : ℕ) (plays : List PlayBody) (area new : List ℕ) → length plays + 1 < from + RECORDS → Torn (RECORD_LEN * (length plays % RECORDS) + 4) 60 area new → HoldsPlays epoch from plays area → HoldsPlays epoch from plays new
+pub filled : (epoch from : ℕ) (plays : List PlayBody) (area new : List ℕ) → length plays + 1 < from + JOURNAL_RECORDS → Torn (RECORD_LEN * (length plays % JOURNAL_RECORDS) + 4) 60 area new → HoldsPlays epoch from plays area → HoldsPlays epoch from plays new
 filled epoch from plays area new free torn holds = record {
   starts = holds.starts;
   within = holds.within;
@@ -126,12 +127,12 @@ filled epoch from plays area new free torn holds = record {
   held = λ i play le is.
       let was = holds.held i play le is in
       let other = free_record from (length plays) i le (slice_get_within plays i play is) free in
-      (gate_beside_body (length plays % RECORDS) (i % RECORDS) area new torn ∙ was.0, body_of_other (length plays % RECORDS) (i % RECORDS) area new other torn ∙ was.1);
-  open_only = λ j lt now. holds.open_only j lt (sym (gate_beside_body (length plays % RECORDS) j area new torn) ∙ now);
+      (gate_beside_body (length plays % JOURNAL_RECORDS) (i % JOURNAL_RECORDS) area new torn ∙ was.0, body_of_other (length plays % JOURNAL_RECORDS) (i % JOURNAL_RECORDS) area new other torn ∙ was.1);
+  open_only = λ j lt now. holds.open_only j lt (sym (gate_beside_body (length plays % JOURNAL_RECORDS) j area new torn) ∙ now);
 }
 
 -- the gate of the next play's record was written, and stands closed
-pub still_closed : (epoch from : ℕ) (plays : List PlayBody) (area new : List ℕ) → length plays + 1 < from + RECORDS → Torn (RECORD_LEN * (length plays % RECORDS)) 1 area new → gate new (length plays % RECORDS) ≢ 1 → HoldsPlays epoch from plays area → HoldsPlays epoch from plays new
+pub still_closed : (epoch from : ℕ) (plays : List PlayBody) (area new : List ℕ) → length plays + 1 < from + JOURNAL_RECORDS → Torn (RECORD_LEN * (length plays % JOURNAL_RECORDS)) 1 area new → gate new (length plays % JOURNAL_RECORDS) ≢ 1 → HoldsPlays epoch from plays area → HoldsPlays epoch from plays new
 still_closed epoch from plays area new free torn shut holds = record {
   starts = holds.starts;
   within = holds.within;
@@ -140,14 +141,14 @@ still_closed epoch from plays area new free torn shut holds = record {
   held = λ i play le is.
       let was = holds.held i play le is in
       let other = free_record from (length plays) i le (slice_get_within plays i play is) free in
-      (gate_of_other (length plays % RECORDS) (i % RECORDS) area new other torn ∙ was.0, body_beside_gate (length plays % RECORDS) (i % RECORDS) area new torn ∙ was.1);
+      (gate_of_other (length plays % JOURNAL_RECORDS) (i % JOURNAL_RECORDS) area new other torn ∙ was.0, body_beside_gate (length plays % JOURNAL_RECORDS) (i % JOURNAL_RECORDS) area new torn ∙ was.1);
   open_only = λ j lt now.
-      let other : j ≢ length plays % RECORDS = λ same. shut (ap (λ (m : ℕ). gate new m) (sym same) ∙ now) in
-      holds.open_only j lt (sym (gate_of_other (length plays % RECORDS) j area new other torn) ∙ now);
+      let other : j ≢ length plays % JOURNAL_RECORDS = λ same. shut (ap (λ (m : ℕ). gate new m) (sym same) ∙ now) in
+      holds.open_only j lt (sym (gate_of_other (length plays % JOURNAL_RECORDS) j area new other torn) ∙ now);
 }
 
 -- it was opened, over the play's fields
-pub opened : (epoch from : ℕ) (plays : List PlayBody) (play : PlayBody) (area new : List ℕ) → length plays + 1 < from + RECORDS → Torn (RECORD_LEN * (length plays % RECORDS)) 1 area new → body area (length plays % RECORDS) ≡ fields epoch (length plays + 1) play → gate new (length plays % RECORDS) ≡ 1 → HoldsPlays epoch from plays area → HoldsPlays epoch from (plays ++ play ∷ []) new
+pub opened : (epoch from : ℕ) (plays : List PlayBody) (play : PlayBody) (area new : List ℕ) → length plays + 1 < from + JOURNAL_RECORDS → Torn (RECORD_LEN * (length plays % JOURNAL_RECORDS)) 1 area new → body area (length plays % JOURNAL_RECORDS) ≡ fields epoch (length plays + 1) play → gate new (length plays % JOURNAL_RECORDS) ≡ 1 → HoldsPlays epoch from plays area → HoldsPlays epoch from (plays ++ play ∷ []) new
 opened epoch from plays play area new free torn has now holds =
     let longer : length (plays ++ play ∷ []) ≡ length plays + 1 = length_push plays play in
     let within : from ≤ length plays + 1 = holds.within in
@@ -163,22 +164,22 @@ opened epoch from plays play area new free torn has now holds =
       open_only = λ j lt opened. open_now j lt opened;
     }
   where
-    held_still : (i : ℕ) (one : PlayBody) → from ≤ i + 1 → slice_get plays i ≡ Some one → (gate new (i % RECORDS) ≡ 1) × (body new (i % RECORDS) ≡ fields epoch (i + 1) one)
+    held_still : (i : ℕ) (one : PlayBody) → from ≤ i + 1 → slice_get plays i ≡ Some one → (gate new (i % JOURNAL_RECORDS) ≡ 1) × (body new (i % JOURNAL_RECORDS) ≡ fields epoch (i + 1) one)
     held_still i one le is =
         let was = holds.held i one le is in
         let other = free_record from (length plays) i le (slice_get_within plays i one is) free in
-        (gate_of_other (length plays % RECORDS) (i % RECORDS) area new other torn ∙ was.0, body_beside_gate (length plays % RECORDS) (i % RECORDS) area new torn ∙ was.1)
+        (gate_of_other (length plays % JOURNAL_RECORDS) (i % JOURNAL_RECORDS) area new other torn ∙ was.0, body_beside_gate (length plays % JOURNAL_RECORDS) (i % JOURNAL_RECORDS) area new torn ∙ was.1)
 
-    held_new : (i : ℕ) (one : PlayBody) → i ≡ length plays → one ≡ play → (gate new (i % RECORDS) ≡ 1) × (body new (i % RECORDS) ≡ fields epoch (i + 1) one)
+    held_new : (i : ℕ) (one : PlayBody) → i ≡ length plays → one ≡ play → (gate new (i % JOURNAL_RECORDS) ≡ 1) × (body new (i % JOURNAL_RECORDS) ≡ fields epoch (i + 1) one)
     held_new i one at same = (
-      ap (λ (m : ℕ). gate new (m % RECORDS)) at ∙ now,
-      ap (λ (m : ℕ). body new (m % RECORDS)) at ∙ body_beside_gate (length plays % RECORDS) (length plays % RECORDS) area new torn ∙ has ∙ ap (λ (m : ℕ). fields epoch (m + 1) play) (sym at) ∙ ap (λ (p : PlayBody). fields epoch (i + 1) p) (sym same),
+      ap (λ (m : ℕ). gate new (m % JOURNAL_RECORDS)) at ∙ now,
+      ap (λ (m : ℕ). body new (m % JOURNAL_RECORDS)) at ∙ body_beside_gate (length plays % JOURNAL_RECORDS) (length plays % JOURNAL_RECORDS) area new torn ∙ has ∙ ap (λ (m : ℕ). fields epoch (m + 1) play) (sym at) ∙ ap (λ (p : PlayBody). fields epoch (i + 1) p) (sym same),
     )
 
-    open_now : (j : ℕ) → j < RECORDS → gate new j ≡ 1 → (i : ℕ) × (from ≤ i + 1) × (i < length (plays ++ play ∷ [])) × (i % RECORDS ≡ j)
-    open_now j lt opened = elim (cases_eq j (length plays % RECORDS)) [
+    open_now : (j : ℕ) → j < JOURNAL_RECORDS → gate new j ≡ 1 → (i : ℕ) × (from ≤ i + 1) × (i < length (plays ++ play ∷ [])) × (i % JOURNAL_RECORDS ≡ j)
+    open_now j lt opened = elim (cases_eq j (length plays % JOURNAL_RECORDS)) [
       | inl same ↦ (length plays, holds.within, omega (arith, length_push plays play), sym same)
       | inr other ↦
-          let was = holds.open_only j lt (sym (gate_of_other (length plays % RECORDS) j area new other torn) ∙ opened) in
+          let was = holds.open_only j lt (sym (gate_of_other (length plays % JOURNAL_RECORDS) j area new other torn) ∙ opened) in
           (was.0, was.1, omega (arith, was.2, length_push plays play), was.3)
     ]

@@ -3,7 +3,8 @@ use Rattle.std.specs.Prelude.{◌≡◌, ◌⊎◌, ℕ, ◌+◌, ◌-◌, ◌*�
 use Rattle.sg_base.specs.declared.play.PlayBody.{PlayBody}
 use Rattle.sg_disk.specs.View.{View}
 use Rattle.sg_disk.specs.Runs.{Ran, Broke}
-use Rattle.sg_disk.specs.declared.places.TheConstants.{JOURNAL, RECORDS, RECORD_LEN}
+use Rattle.sg_base.specs.declared.limits.TheConstants.{MAX_PLAYS, JOURNAL_RECORDS}
+use Rattle.sg_disk.specs.declared.places.TheConstants.{JOURNAL, RECORD_LEN}
 use Rattle.sg_journal.specs.declared.record.Entry.{Entry}
 use Rattle.sg_journal.specs.declared.fault.OpenFault.{OpenFault}
 use Rattle.sg_journal.specs.declared.fault.OpenFault.TheVariants.{Damaged, Disk, Memory}
@@ -27,12 +28,13 @@ pub record AreRead (epoch n : ℕ) (area : List ℕ) (entries : List (Option Ent
 
 -- each number is one that the play in its record may have
 pub record AreOwn (entries : List (Option Entry)) : Type 0 where
-  pub count : length entries ≡ RECORDS
-  pub each : (k : ℕ) (entry : Entry) → k < RECORDS → entry_at entries k ≡ Some entry → (1 ≤ entry.number) × (entry.number < 4294967295) × ((entry.number - 1) % RECORDS ≡ k)
+  pub count : length entries ≡ JOURNAL_RECORDS
+  pub each : (k : ℕ) (entry : Entry) → k < JOURNAL_RECORDS → entry_at entries k ≡ Some entry
+      → (1 ≤ entry.number) × (entry.number ≤ MAX_PLAYS) × ((entry.number - 1) % JOURNAL_RECORDS ≡ k)
 
 -- the play with a number
 abbrev pub held_by : List (Option Entry) → ℕ → Option PlayBody
-held_by entries n = numbered n (entry_at entries ((n - 1) % RECORDS))
+held_by entries n = numbered n (entry_at entries ((n - 1) % JOURNAL_RECORDS))
 
 -- a number above another that is held, where the one before it isn't
 pub record IsStart (entries : List (Option Entry)) (above n : ℕ) : Type 0 where
@@ -47,13 +49,15 @@ pub record IsLeastStart (entries : List (Option Entry)) (above n : ℕ) : Type 0
 
 -- the plays with numbers that follow each other, up to one that isn't held
 pub record IsRun (entries : List (Option Entry)) (first : ℕ) (plays : List PlayBody) : Type 0 where
-  pub each : (i : ℕ) (play : PlayBody) → slice_get plays i ≡ Some play → held_by entries (first + i) ≡ Some play
+  pub each : (i : ℕ) (play : PlayBody) → slice_get plays i ≡ Some play
+      → held_by entries (first + i) ≡ Some play
   pub stops : held_by entries (first + length plays) ≡ None
-  pub few : length plays ≤ RECORDS
-  pub fits : first + length plays ≤ 4294967295
+  pub few : length plays ≤ JOURNAL_RECORDS
+  pub fits : first + length plays ≤ MAX_PLAYS + 1
 
 -- the plays from the least number on, and no other play is held
-pub record IsRecovered (entries : List (Option Entry)) (first : ℕ) (plays : List PlayBody) : Type 0 where
+pub record IsRecovered (entries : List (Option Entry)) (first : ℕ)
+    (plays : List PlayBody) : Type 0 where
   pub starts : 1 ≤ first
   pub run : IsRun entries first plays
   pub least : (n : ℕ) → IsStart entries 0 n → first ≤ n
@@ -65,4 +69,4 @@ pub record IsGapAt (entries : List (Option Entry)) (place found : ℕ) : Type 0 
   pub first : ℕ
   pub least : IsLeastStart entries 0 first
   pub next : IsLeastStart entries first found
-  pub place_is : place ≡ JOURNAL + RECORD_LEN * ((found - 1) % RECORDS)
+  pub place_is : place ≡ JOURNAL + RECORD_LEN * ((found - 1) % JOURNAL_RECORDS)

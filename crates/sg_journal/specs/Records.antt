@@ -3,11 +3,13 @@ use Rattle.std.specs.Prelude.{◌≡◌, ◌⊎◌, ◌==◌, ◌&&◌, ℕ, ◌
 use Rattle.std.specs.Int.{w32, from_le_bytes}
 use Rattle.sg_base.specs.declared.play.PlayBody.{PlayBody}
 use Rattle.sg_disk.specs.View.{range}
-use Rattle.sg_disk.specs.declared.places.TheConstants.{JOURNAL, RECORDS, RECORD_LEN}
+use Rattle.sg_base.specs.declared.limits.TheConstants.{LAST_MOMENT, MAX_PLAYS, JOURNAL_RECORDS}
+use Rattle.sg_disk.specs.declared.places.TheConstants.{JOURNAL, RECORD_LEN}
+use Rattle.sg_journal.specs.declared.record.TheConstants.{NUMBER, EVENT, LAYOUT, FROM, TO, EPOCH}
 use Rattle.sg_journal.specs.declared.record.Entry.{Entry}
 use Rattle.sg_journal.specs.declared.record.Wrong.{Wrong}
 
--- record k of the area: 64 bytes
+-- record k of the area
 abbrev pub record_of : List ℕ → ℕ → List ℕ
 record_of area k = range area (RECORD_LEN * k) RECORD_LEN
 
@@ -19,29 +21,40 @@ field bytes place = from_le_bytes w32 (range bytes place 4)
 abbrev pub entry_of : List ℕ → Option Entry
 entry_of bytes =
     if slice_index bytes 0 == 1 then Some (record {
-      number = field bytes 4;
-      play = record { event = field bytes 8; layout = field bytes 12; from = field bytes 16; to = field bytes 20 };
+      number = field bytes NUMBER;
+      play = record {
+        event = field bytes EVENT;
+        layout = field bytes LAYOUT;
+        from = field bytes FROM;
+        to = field bytes TO;
+      };
     }) else None
 
 -- a number that the play in record k may have: play n stands in record n - 1 modulo the number of records
 abbrev pub is_own : ℕ → ℕ → Bool
-is_own k number = nat_le 1 number && (nat_lt number 4294967295 && ((number - 1) % RECORDS == k))
+is_own k number = nat_le 1 number &&
+    (nat_le number MAX_PLAYS && ((number - 1) % JOURNAL_RECORDS == k))
 
 -- What the play of a record has wrong, the first of these: an end that isn't behind the start, a start or an end after
 -- 2099, and no layout
 abbrev pub wrong_play : List ℕ → Option Wrong
 wrong_play bytes =
-    if nat_le (field bytes 20) (field bytes 16) then Some (record { place = 20; found = field bytes 20 })
-    else (if nat_lt 4102444799 (field bytes 16) then Some (record { place = 16; found = field bytes 16 })
-    else (if nat_lt 4102444799 (field bytes 20) then Some (record { place = 20; found = field bytes 20 })
-    else (if field bytes 12 == 0 then Some (record { place = 12; found = 0 })
+    if nat_le (field bytes TO) (field bytes FROM)
+    then Some (record { place = TO; found = field bytes TO })
+    else (if nat_lt LAST_MOMENT (field bytes FROM)
+    then Some (record { place = FROM; found = field bytes FROM })
+    else (if nat_lt LAST_MOMENT (field bytes TO)
+    then Some (record { place = TO; found = field bytes TO })
+    else (if field bytes LAYOUT == 0 then Some (record { place = LAYOUT; found = 0 })
     else None)))
 
 -- what an open record has wrong: a number that isn't its own, then another epoch, then its play
 abbrev pub wrong_of : ℕ → ℕ → List ℕ → Option Wrong
 wrong_of epoch k bytes =
-    if not (is_own k (field bytes 4)) then Some (record { place = 4; found = field bytes 4 })
-    else (if not (field bytes 24 == epoch) then Some (record { place = 24; found = field bytes 24 })
+    if not (is_own k (field bytes NUMBER))
+    then Some (record { place = NUMBER; found = field bytes NUMBER })
+    else (if not (field bytes EPOCH == epoch)
+    then Some (record { place = EPOCH; found = field bytes EPOCH })
     else wrong_play bytes)
 
 -- what record k has wrong, where its gate is open
@@ -55,7 +68,7 @@ numbered n (Some entry) = if entry.number == n then Some entry.play else None
 
 -- the play with a number, where the record of that number is open and has it
 abbrev pub play_at : List ℕ → ℕ → Option PlayBody
-play_at area n = numbered n (entry_of (record_of area ((n - 1) % RECORDS)))
+play_at area n = numbered n (entry_of (record_of area ((n - 1) % JOURNAL_RECORDS)))
 
 abbrev pub IsHeld : List ℕ → ℕ → Type 0
 IsHeld area n = (1 ≤ n) × IsSome (play_at area n)
@@ -84,18 +97,20 @@ pub record IsFirstWrong (epoch n : ℕ) (area : List ℕ) (place found : ℕ) : 
 pub record IsFirstGap (area : List ℕ) (place found : ℕ) : Type 0 where
   pub gap : IsGap area found
   pub least : (n : ℕ) → IsGap area n → found ≤ n
-  pub place_is : place ≡ JOURNAL + RECORD_LEN * ((found - 1) % RECORDS)
+  pub place_is : place ≡ JOURNAL + RECORD_LEN * ((found - 1) % JOURNAL_RECORDS)
 
 -- the damage that an opening of this area finds
 abbrev pub FirstDamage : ℕ → List ℕ → ℕ → ℕ → Type 0
-FirstDamage epoch area place found = IsFirstWrong epoch RECORDS area place found ⊎ (AreSound epoch RECORDS area × IsFirstGap area place found)
+FirstDamage epoch area place found = IsFirstWrong epoch JOURNAL_RECORDS area place found
+    ⊎ (AreSound epoch JOURNAL_RECORDS area × IsFirstGap area place found)
 
 -- An area without damage holds these plays, of which the first has this number, and no other; where it holds none, the
 -- first would have the number 1
 pub record Holds (epoch : ℕ) (area : List ℕ) (first : ℕ) (plays : List PlayBody) : Type 0 where
   pub starts : 1 ≤ first
-  pub sound : AreSound epoch RECORDS area
+  pub sound : AreSound epoch JOURNAL_RECORDS area
   pub no_gap : (n : ℕ) → IsGap area n → ⊥
-  pub each : (i : ℕ) (play : PlayBody) → slice_get plays i ≡ Some play → play_at area (first + i) ≡ Some play
+  pub each : (i : ℕ) (play : PlayBody) → slice_get plays i ≡ Some play
+      → play_at area (first + i) ≡ Some play
   pub only : (n : ℕ) → IsHeld area n → (first ≤ n) × (n < first + length plays)
   pub empty : length plays ≡ 0 → first ≡ 1

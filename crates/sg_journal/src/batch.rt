@@ -1,22 +1,21 @@
 // A batch of plays, in fixed room.
 
+use sg_base::limits::BATCH_PLAYS;
 use sg_base::{Moment, PlayBody};
-
-/// The most plays that a batch has.
-pub const BATCH_PLAYS: usize = 64;
 
 /// Up to 64 plays with numbers that follow each other, in fixed room.
 #[derive(Debug, Drop)]
 pub struct Batch {
     first: u32,
     // the plays in front, as many as `count` says
-    plays: [PlayBody; 64],
+    plays: [PlayBody; BATCH_PLAYS],
     count: usize,
-    ghost long: { length plays ≡ 64 },
-    ghost within: { count ≤ 64 },
+    ghost long: { length plays ≡ BATCH_PLAYS },
+    ghost within: { count ≤ BATCH_PLAYS },
 }
 
 ghost use Rattle.std.specs.Prelude.{◌≡◌, ◌≤◌, length};
+ghost use Rattle.sg_base.specs.declared.limits.TheConstants.{BATCH_PLAYS};
 
 impl Batch {
     ghost use Rattle.std.specs.Prelude.{◌≡◌, ◌+◌, ◌<◌, ◌≤◌, [], ◌∷◌, ◌++◌, length};
@@ -36,7 +35,7 @@ impl Batch {
         };
         Batch {
             first: 1,
-            plays: [nothing; 64],
+            plays: [nothing; BATCH_PLAYS],
             count: 0,
         }
     }
@@ -51,7 +50,7 @@ impl Batch {
     /// Its plays, by ascending numbers.
     pub fn plays(&self) -> &[PlayBody]
         ensures plays { result.now ≡ batch_plays self.now }
-        ensures few { length result.now ≤ 64 }
+        ensures few { length result.now ≤ BATCH_PLAYS }
     {
         &self.plays[..self.count]
     }
@@ -67,7 +66,7 @@ impl Batch {
 
     // Adds a play behind the others.
     pub(crate) fn push(&mut self, play: PlayBody)
-        requires { length (batch_plays self.old) < 64 }
+        requires { length (batch_plays self.old) < BATCH_PLAYS }
         ensures first { batch_first self.new ≡ batch_first self.old }
         ensures plays { batch_plays self.new ≡ batch_plays self.old ++ play ∷ [] }
     {

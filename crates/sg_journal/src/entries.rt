@@ -6,16 +6,16 @@ ghost use Rattle.sg_journal.specs.Entries.{AreOwn, held_by, IsStart, IsLeastStar
 
 use crate::record::Entry;
 use sg_base::PlayBody;
-use sg_disk::RECORDS;
+use sg_base::limits::{JOURNAL_RECORDS, MAX_PLAYS};
 use std::collections::VecDeque;
 
 // The play with a number.
 fn play_numbered(entries: &[Option<Entry>], number: u32) -> Option<PlayBody>
-    requires count { length entries.now ≡ 65536 }
+    requires count { length entries.now ≡ JOURNAL_RECORDS }
     requires low { 1 ≤ number }
     ensures { result ≡ held_by entries.now number }
 {
-    let entry = entries[((number - 1) % RECORDS as u32) as usize]?;
+    let entry = entries[((number - 1) % JOURNAL_RECORDS as u32) as usize]?;
     if entry.number == number {
         Some(entry.play)
     } else {
@@ -25,20 +25,23 @@ fn play_numbered(entries: &[Option<Entry>], number: u32) -> Option<PlayBody>
 
 // Whether no play has the number before this one.
 fn begins(entries: &[Option<Entry>], number: u32) -> bool
-    requires count { length entries.now ≡ 65536 }
+    requires count { length entries.now ≡ JOURNAL_RECORDS }
     requires low { 1 ≤ number }
     ensures begins { result ≡ true → (number ≡ 1) ⊎ (held_by entries.now (number - 1) ≡ None) }
-    ensures goes_on { result ≡ false → (number ≡ 1 → ⊥) × IsSome (held_by entries.now (number - 1)) }
+    ensures goes_on { result ≡ false → (number ≡ 1 → ⊥)
+        × IsSome (held_by entries.now (number - 1)) }
 {
     number == 1 || play_numbered(entries, number - 1).is_none()
 }
 
 // The number of an entry, where it is above another and no play has the number before it.
 fn start_of(entries: &[Option<Entry>], above: u32, entry: Option<Entry>) -> Option<u32>
-    requires count { length entries.now ≡ 65536 }
-    requires own { (e : Entry) → entry ≡ Some e → (1 ≤ e.number) × (held_by entries.now e.number ≡ Some e.play) }
+    requires count { length entries.now ≡ JOURNAL_RECORDS }
+    requires own { (e : Entry) → entry ≡ Some e
+        → (1 ≤ e.number) × (held_by entries.now e.number ≡ Some e.play) }
     ensures start { IfSome result (λ n. IsStart entries.now above n) }
-    ensures none { result ≡ None → (e : Entry) → entry ≡ Some e → IsStart entries.now above e.number → ⊥ }
+    ensures none { result ≡ None → (e : Entry) → entry ≡ Some e → IsStart entries.now above e.number
+        → ⊥ }
     ensures number { (n : ℕ) → result ≡ Some n → (e : Entry) × (entry ≡ Some e) × (e.number ≡ n) }
 {
     let number = entry?.number;
@@ -62,7 +65,8 @@ fn lower(best: Option<u32>, number: u32) -> u32
 /// The least number above another that has a play while the one before it has none. It looks at each entry once.
 pub fn next_start(entries: &[Option<Entry>], above: u32) -> Option<u32>
     requires { AreOwn entries.now }
-    ensures { MatchOption result ((n : ℕ) → IsStart entries.now above n → ⊥) (λ n. IsLeastStart entries.now above n) }
+    ensures { MatchOption result ((n : ℕ) → IsStart entries.now above n
+        → ⊥) (λ n. IsLeastStart entries.now above n) }
 {
     let mut best = None;
     for entry in entries {
@@ -76,13 +80,13 @@ pub fn next_start(entries: &[Option<Entry>], above: u32) -> Option<u32>
 /// Takes the plays that follow each other from a number on, at most one from each entry.
 pub fn fill(entries: &[Option<Entry>], first: u32, plays: &mut VecDeque<PlayBody>)
     requires entries { AreOwn entries.now }
-    requires first { (1 ≤ first) × (first < 4294967295) }
+    requires first { (1 ≤ first) × (first ≤ MAX_PLAYS) }
     requires empty { plays.old.items ≡ [] }
-    requires room { 65536 ≤ deque_capacity plays.old }
+    requires room { JOURNAL_RECORDS ≤ deque_capacity plays.old }
     ensures run { IsRun entries.now first plays.new.items }
-    ensures room { 65536 ≤ deque_capacity plays.new }
+    ensures room { JOURNAL_RECORDS ≤ deque_capacity plays.new }
 {
-    for _ in 0..RECORDS {
+    for _ in 0..JOURNAL_RECORDS {
         let Some(play) = play_numbered(entries, first + plays.len() as u32) else {
             return;
         };

@@ -2,6 +2,7 @@
 
 ghost use Rattle.std.specs.Prelude.{◌+◌, ◌^◌, ◌<◌, ◌≤◌, length};
 ghost use Rattle.std.specs.VecDeque.{deque_capacity};
+ghost use Rattle.sg_base.specs.declared.limits.TheConstants.{JOURNAL_RECORDS};
 
 use crate::batch::Batch;
 use crate::entries::{fill, next_start};
@@ -9,8 +10,9 @@ use crate::fault::{AppendFault, OpenFault};
 use crate::reading::read_records;
 use crate::record::{Entry, record_fields};
 use sg_base::PlayBody;
+use sg_base::limits::{BATCH_PLAYS, JOURNAL_RECORDS};
 use sg_disk::{
-    APPEND_CALLS, Disk, DiskFailed, JOURNAL, JOURNAL_LEN, OPEN_CALLS, RECORD_LEN, RECORDS,
+    APPEND_CALLS, DATA, Disk, DiskFailed, JOURNAL, JOURNAL_LEN, OPEN_CALLS, RECORD_LEN,
     write_synced,
 };
 use std::alloc::Global;
@@ -28,9 +30,9 @@ pub struct Journal {
     plays: VecDeque<PlayBody>,
     ghost starts: { 1 ≤ oldest },
     ghost known: { oldest ≤ first },
-    ghost ring: { first + length plays.items ≤ oldest + 65536 },
+    ghost ring: { first + length plays.items ≤ oldest + JOURNAL_RECORDS },
     ghost fits: { first + length plays.items < 2 ^ 32 },
-    ghost room: { 65536 ≤ deque_capacity plays },
+    ghost room: { JOURNAL_RECORDS ≤ deque_capacity plays },
 }
 
 impl Journal {
@@ -50,16 +52,25 @@ impl Journal {
     /// something wrong, or else at the record with the least number behind a gap. `Disk` comes only where the disk's count of
     /// faults rose, and `Memory` for want of memory, of which it takes one mebibyte to keep and two and a half while it opens.
     pub fn open<D: Disk>(alloc: Global, disk: &mut D, epoch: u32) -> Result<Journal, OpenFault>
-        requires { 6336512 ≤ (D.view disk.old).size }
+        requires { DATA ≤ (D.view disk.old).size }
 
         // A crash at any moment of the call leaves what one before it could leave.
-        ensures any_moment { LeavesOnly (D.view disk.old).images (D.view disk.old) (D.view disk.new) }
-        ensures ready { IfOk result (λ j. (r : Contents) → (D.view disk.old).told → StandsFor r (D.view disk.old).bytes → r.epoch ≡ epoch → (first_of j ≤ r.floor) × IsReady (D.view disk.new) j (record r { floor = first_of j })) }
+        ensures any_moment { LeavesOnly (D.view disk.old).images (D.view disk.old)
+            (D.view disk.new) }
+        ensures ready { IfOk result (λ j. (r : Contents) → (D.view disk.old).told
+            → StandsFor r (D.view disk.old).bytes → r.epoch ≡ epoch
+            → (first_of j ≤ r.floor) × IsReady (D.view disk.new) j
+            (record r { floor = first_of j })) }
 
         // What was found, whatever wrote it.
-        ensures holds { IfOk result (λ j. (D.view disk.old).told → Holds epoch (journal_of (D.view disk.old).bytes) (first_of j) (plays_of j)) }
-        ensures damaged { (place found : ℕ) → IsErrOf result (OpenFault.Damaged place found) → (D.view disk.old).told → FirstDamage epoch (journal_of (D.view disk.old).bytes) place found }
-        ensures undamaged { (r : Contents) → (D.view disk.old).told → StandsFor r (D.view disk.old).bytes → r.epoch ≡ epoch → (place found : ℕ) → IsErrOf result (OpenFault.Damaged place found) → ⊥ }
+        ensures holds { IfOk result (λ j. (D.view disk.old).told
+            → Holds epoch (journal_of (D.view disk.old).bytes) (first_of j) (plays_of j)) }
+        ensures damaged { (place found : ℕ) → IsErrOf result (OpenFault.Damaged place found)
+            → (D.view disk.old).told → FirstDamage epoch
+            (journal_of (D.view disk.old).bytes) place found }
+        ensures undamaged { (r : Contents) → (D.view disk.old).told
+            → StandsFor r (D.view disk.old).bytes → r.epoch ≡ epoch → (place found : ℕ)
+            → IsErrOf result (OpenFault.Damaged place found) → ⊥ }
 
         // What it leaves of the disk.
         ensures ended { IfErr result (λ fault. EndedBy fault (D.view disk.old) (D.view disk.new)) }
@@ -107,7 +118,7 @@ impl Journal {
     /// all of them where there are fewer.
     pub fn batch(&self, limit: usize, into: &mut Batch)
         requires low { 1 ≤ limit }
-        requires high { limit ≤ 64 }
+        requires high { limit ≤ BATCH_PLAYS }
         ensures first { batch_first into.new ≡ first_of self.now }
         ensures plays { batch_plays into.new ≡ take limit (plays_of self.now) }
     {
@@ -124,33 +135,41 @@ impl Journal {
     /// used up; then nothing is changed. `Disk` comes only where the disk's count of faults rose. The play is then recorded
     /// or not, and the journal is opened again.
     pub fn append<D: Disk>(&mut self, disk: &mut D, play: &PlayBody) -> Result<u32, AppendFault>
-        requires disk { 6336512 ≤ (D.view disk.old).size }
+        requires disk { DATA ≤ (D.view disk.old).size }
         requires rises { play.now.from < play.now.to }
         requires layout { 1 ≤ play.now.layout }
 
         // A crash at any moment of the call leaves what was there, with the play or without.
-        ensures any_moment { (p : Contents) → IsReady (D.view disk.old) self.old p → LeavesOnly (Either p (played p play.now)) (D.view disk.old) (D.view disk.new) }
-        ensures recorded { OnOk result ((p : Contents) → IsReady (D.view disk.old) self.old p → IsReady (D.view disk.new) self.new (played p play.now)) }
+        ensures any_moment { (p : Contents) → IsReady (D.view disk.old) self.old p
+            → LeavesOnly (Either p (played p play.now)) (D.view disk.old) (D.view disk.new) }
+        ensures recorded { OnOk result ((p : Contents) → IsReady (D.view disk.old) self.old p
+            → IsReady (D.view disk.new) self.new (played p play.now)) }
         ensures number { IfOk result (λ n. n ≡ next_of self.old) }
         ensures plays { OnOk result (plays_of self.new ≡ plays_of self.old ++ play.now ∷ []) }
         ensures kept { OnErr result (plays_of self.new ≡ plays_of self.old) }
         ensures first { first_of self.new ≡ first_of self.old }
 
         // Why it isn't recorded.
-        ensures full { (a b : ℕ) → IsErrOf result (AppendFault.Full a b) → (a ≡ first_of self.old) × (b ≡ next_of self.old) × (b ≡ a + 65536) }
-        ensures full_so { next_of self.old ≡ first_of self.old + 65536 → IsErrOf result (AppendFault.Full (first_of self.old) (next_of self.old)) }
-        ensures full_kept { (a b : ℕ) → IsErrOf result (AppendFault.Full a b) → (self.new ≡ self.old) × (disk.new ≡ disk.old) }
-        ensures spent { IsErrOf result AppendFault.Spent → next_of self.old ≡ 2 ^ 32 - 1 }
-        ensures spent_so { next_of self.old < first_of self.old + 65536 → next_of self.old ≡ 2 ^ 32 - 1 → IsErrOf result AppendFault.Spent }
-        ensures spent_kept { IsErrOf result AppendFault.Spent → (self.new ≡ self.old) × (disk.new ≡ disk.old) }
-        ensures broke { IsErrOf result AppendFault.Disk → Broke (D.view disk.old) (D.view disk.new) }
+        ensures full { (a b : ℕ) → IsErrOf result (AppendFault.Full a b)
+            → (a ≡ first_of self.old) × (b ≡ next_of self.old) × (b ≡ a + JOURNAL_RECORDS) }
+        ensures full_so { next_of self.old ≡ first_of self.old + JOURNAL_RECORDS
+            → IsErrOf result (AppendFault.Full (first_of self.old) (next_of self.old)) }
+        ensures full_kept { (a b : ℕ) → IsErrOf result (AppendFault.Full a b)
+            → (self.new ≡ self.old) × (disk.new ≡ disk.old) }
+        ensures spent { IsErrOf result AppendFault.Spent → next_of self.old ≡ u32.MAX }
+        ensures spent_so { next_of self.old < first_of self.old + JOURNAL_RECORDS
+            → next_of self.old ≡ u32.MAX → IsErrOf result AppendFault.Spent }
+        ensures spent_kept { IsErrOf result AppendFault.Spent
+            → (self.new ≡ self.old) × (disk.new ≡ disk.old) }
+        ensures broke { IsErrOf result AppendFault.Disk
+            → Broke (D.view disk.old) (D.view disk.new) }
 
         // What it leaves of the disk.
         ensures within { Within JOURNAL JOURNAL_LEN (D.view disk.old) (D.view disk.new) }
         ensures size { (D.view disk.new).size ≡ (D.view disk.old).size }
         ensures ran { OnOk result (Ran APPEND_CALLS (D.view disk.old) (D.view disk.new)) }
     {
-        if self.next() - self.first == RECORDS as u32 {
+        if self.next() - self.first == JOURNAL_RECORDS as u32 {
             return Err(AppendFault::Full {
                 first: self.first,
                 next: self.next(),
@@ -171,10 +190,11 @@ impl Journal {
         ensures recovered { IfOk result (λ j. IsRecovered entries.now (first_of j) (plays_of j)) }
         ensures oldest { IfOk result (λ j. oldest_of j ≡ first_of j) }
         ensures epoch { IfOk result (λ j. epoch_of j ≡ epoch) }
-        ensures gap { (place found : ℕ) → IsErrOf result (OpenFault.Damaged place found) → IsGapAt entries.now place found }
+        ensures gap { (place found : ℕ) → IsErrOf result (OpenFault.Damaged place found)
+            → IsGapAt entries.now place found }
         ensures passed { IsErrOf result OpenFault.Disk → ⊥ }
     {
-        let mut plays = VecDeque::with_capacity(alloc, RECORDS as usize)?;
+        let mut plays = VecDeque::with_capacity(alloc, JOURNAL_RECORDS as usize)?;
         let Some(first) = next_start(entries, 0) else {
             return Ok(Journal {
                 epoch,
@@ -185,7 +205,7 @@ impl Journal {
         };
         if let Some(number) = next_start(entries, first) {
             return Err(OpenFault::Damaged {
-                place: JOURNAL + RECORD_LEN * (u64::from(number - 1) % RECORDS),
+                place: JOURNAL + RECORD_LEN * (u64::from(number - 1) % JOURNAL_RECORDS),
                 found: u64::from(number),
             });
         }
@@ -200,18 +220,20 @@ impl Journal {
 
     // Where the next play's record stands on the disk.
     fn place(&self) -> u64
-        ensures { result ≡ JOURNAL + RECORD_LEN * ((next_of self.now - 1) % RECORDS) }
+        ensures { result ≡ JOURNAL + RECORD_LEN * ((next_of self.now - 1) % JOURNAL_RECORDS) }
     {
-        JOURNAL + RECORD_LEN * (u64::from(self.next() - 1) % RECORDS)
+        JOURNAL + RECORD_LEN * (u64::from(self.next() - 1) % JOURNAL_RECORDS)
     }
 
     // Closes the next play's record, where it still holds a play.
     fn close<D: Disk>(&mut self, disk: &mut D) -> Result<(), DiskFailed>
-        requires disk { 6336512 ≤ (D.view disk.old).size }
-        requires acknowledged { next_of self.old < first_of self.old + 65536 }
-        ensures any_moment { (p : Contents) → IsReady (D.view disk.old) self.old p → LeavesOnly (StandsFor p) (D.view disk.old) (D.view disk.new) }
-        ensures ready { OnOk result ((p : Contents) → IsReady (D.view disk.old) self.old p → IsReady (D.view disk.new) self.new p) }
-        ensures free { OnOk result (next_of self.new < oldest_of self.new + 65536) }
+        requires disk { DATA ≤ (D.view disk.old).size }
+        requires acknowledged { next_of self.old < first_of self.old + JOURNAL_RECORDS }
+        ensures any_moment { (p : Contents) → IsReady (D.view disk.old) self.old p
+            → LeavesOnly (StandsFor p) (D.view disk.old) (D.view disk.new) }
+        ensures ready { OnOk result ((p : Contents) → IsReady (D.view disk.old) self.old p
+            → IsReady (D.view disk.new) self.new p) }
+        ensures free { OnOk result (next_of self.new < oldest_of self.new + JOURNAL_RECORDS) }
         ensures plays { plays_of self.new ≡ plays_of self.old }
         ensures first { first_of self.new ≡ first_of self.old }
         ensures ran { OnOk result (Ran 0 (D.view disk.old) (D.view disk.new)) }
@@ -219,7 +241,7 @@ impl Journal {
         ensures size { (D.view disk.new).size ≡ (D.view disk.old).size }
         ensures broke { OnErr result (Broke (D.view disk.old) (D.view disk.new)) }
     {
-        if self.next() - self.oldest < RECORDS as u32 {
+        if self.next() - self.oldest < JOURNAL_RECORDS as u32 {
             return Ok(());
         }
         write_synced(disk, self.place(), &[0])?;
@@ -229,14 +251,16 @@ impl Journal {
 
     // Writes the next play's record behind its closed gate, and opens the gate.
     fn write_record<D: Disk>(&mut self, disk: &mut D, play: &PlayBody) -> Result<(), DiskFailed>
-        requires disk { 6336512 ≤ (D.view disk.old).size }
-        requires free { next_of self.old < oldest_of self.old + 65536 }
-        requires room { next_of self.old < first_of self.old + 65536 }
+        requires disk { DATA ≤ (D.view disk.old).size }
+        requires free { next_of self.old < oldest_of self.old + JOURNAL_RECORDS }
+        requires room { next_of self.old < first_of self.old + JOURNAL_RECORDS }
         requires unspent { next_of self.old + 1 < 2 ^ 32 }
         requires rises { play.now.from < play.now.to }
         requires layout { 1 ≤ play.now.layout }
-        ensures any_moment { (p : Contents) → IsReady (D.view disk.old) self.old p → LeavesOnly (Either p (played p play.now)) (D.view disk.old) (D.view disk.new) }
-        ensures ready { OnOk result ((p : Contents) → IsReady (D.view disk.old) self.old p → IsReady (D.view disk.new) self.new (played p play.now)) }
+        ensures any_moment { (p : Contents) → IsReady (D.view disk.old) self.old p
+            → LeavesOnly (Either p (played p play.now)) (D.view disk.old) (D.view disk.new) }
+        ensures ready { OnOk result ((p : Contents) → IsReady (D.view disk.old) self.old p
+            → IsReady (D.view disk.new) self.new (played p play.now)) }
         ensures plays { OnOk result (plays_of self.new ≡ plays_of self.old ++ play.now ∷ []) }
         ensures kept { OnErr result (plays_of self.new ≡ plays_of self.old) }
         ensures first { first_of self.new ≡ first_of self.old }

@@ -15,7 +15,7 @@ mod reading;
 mod record;
 mod series;
 
-pub use batch::{BATCH_PLAYS, Batch};
+pub use batch::Batch;
 pub use fault::{AppendFault, OpenFault};
 pub use journal::Journal;
 pub use series::append_all;

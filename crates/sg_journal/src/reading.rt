@@ -1,5 +1,5 @@
 // The reading of the journal's area, piece by piece.
-ghost use Rattle.std.specs.Prelude.{◌≡◌, ℕ, ◌+◌, ◌*◌, ◌≤◌, List, [], ◌++◌, length, IfOk, IfErr, OnOk, IsErrOf, vec_len};
+ghost use Rattle.std.specs.Prelude.{◌≡◌, ℕ, ◌+◌, ◌*◌, ◌<◌, ◌≤◌, List, [], ◌++◌, length, IfOk, IfErr, OnOk, IsErrOf, vec_len};
 ghost use Rattle.sg_disk.specs.StandsFor.{journal_of};
 ghost use Rattle.sg_disk.specs.Runs.{LeavesOnly, Quiet};
 ghost use Rattle.sg_journal.specs.Records.{IsFirstWrong};
@@ -7,7 +7,8 @@ ghost use Rattle.sg_journal.specs.Entries.{AreRead, EndedBy};
 
 use crate::fault::OpenFault;
 use crate::record::{Entry, Wrong, read_record};
-use sg_disk::{Disk, JOURNAL, RECORD_LEN, RECORDS};
+use sg_base::limits::JOURNAL_RECORDS;
+use sg_disk::{DATA, Disk, JOURNAL, RECORD_LEN};
 use std::alloc::{AllocError, Global};
 
 // The area is read in pieces of so many bytes, through one buffer.
@@ -21,7 +22,7 @@ pub const PIECES: u64 = 64;
 
 // What an opening answers for a record that has something wrong.
 fn damaged(k: u64, wrong: Wrong) -> OpenFault
-    requires { k ≤ 65535 }
+    requires { k < JOURNAL_RECORDS }
     ensures { result ≡ OpenFault.Damaged (JOURNAL + RECORD_LEN * k + wrong.place) wrong.found }
 {
     OpenFault::Damaged {
@@ -44,10 +45,15 @@ fn read_piece(
     epoch: u32,
     entries: &mut Vec<Option<Entry>>,
 ) -> Result<(), OpenFault>
-    requires long { length buffer.now ≡ 65536 }
-    requires from { from ≤ 64512 }
-    ensures read { OnOk result ((area : List ℕ) → length area ≡ RECORD_LEN * from → AreRead epoch from area entries.old.items → AreRead epoch (from + PIECE_RECORDS) (area ++ buffer.now) entries.new.items) }
-    ensures damaged { (place found : ℕ) → IsErrOf result (OpenFault.Damaged place found) → (area : List ℕ) → length area ≡ RECORD_LEN * from → AreRead epoch from area entries.old.items → IsFirstWrong epoch (from + PIECE_RECORDS) (area ++ buffer.now) place found }
+    requires long { length buffer.now ≡ PIECE_LEN }
+    requires from { from + PIECE_RECORDS ≤ JOURNAL_RECORDS }
+    ensures read { OnOk result ((area : List ℕ) → length area ≡ RECORD_LEN * from
+        → AreRead epoch from area entries.old.items
+        → AreRead epoch (from + PIECE_RECORDS) (area ++ buffer.now) entries.new.items) }
+    ensures damaged { (place found : ℕ) → IsErrOf result (OpenFault.Damaged place found)
+        → (area : List ℕ) → length area ≡ RECORD_LEN * from
+        → AreRead epoch from area entries.old.items
+        → IsFirstWrong epoch (from + PIECE_RECORDS) (area ++ buffer.now) place found }
     ensures passed { IsErrOf result OpenFault.Disk → ⊥ }
 {
     for i in 0..PIECE_RECORDS {
@@ -67,11 +73,15 @@ fn read_pieces<D: Disk>(
     buffer: &mut [u8],
     entries: &mut Vec<Option<Entry>>,
 ) -> Result<(), OpenFault>
-    requires disk { 6336512 ≤ (D.view disk.old).size }
-    requires long { length buffer.old ≡ 65536 }
+    requires disk { DATA ≤ (D.view disk.old).size }
+    requires long { length buffer.old ≡ PIECE_LEN }
     requires empty { entries.old.items ≡ [] }
-    ensures read { OnOk result ((area : List ℕ) × ((D.view disk.old).told → area ≡ journal_of (D.view disk.old).bytes) × AreRead epoch RECORDS area entries.new.items) }
-    ensures damaged { (place found : ℕ) → IsErrOf result (OpenFault.Damaged place found) → (D.view disk.old).told → IsFirstWrong epoch RECORDS (journal_of (D.view disk.old).bytes) place found }
+    ensures read { OnOk result ((area : List ℕ)
+        × ((D.view disk.old).told → area ≡ journal_of (D.view disk.old).bytes)
+        × AreRead epoch JOURNAL_RECORDS area entries.new.items) }
+    ensures damaged { (place found : ℕ) → IsErrOf result (OpenFault.Damaged place found)
+        → (D.view disk.old).told → IsFirstWrong epoch JOURNAL_RECORDS
+        (journal_of (D.view disk.old).bytes) place found }
     ensures any_moment { LeavesOnly (D.view disk.old).images (D.view disk.old) (D.view disk.new) }
     ensures quiet { OnOk result (Quiet PIECES (D.view disk.old) (D.view disk.new)) }
     ensures bytes { (D.view disk.old).told → (D.view disk.new).bytes ≡ (D.view disk.old).bytes }
@@ -92,9 +102,13 @@ pub fn read_records<D: Disk>(
     disk: &mut D,
     epoch: u32,
 ) -> Result<Vec<Option<Entry>>, OpenFault>
-    requires { 6336512 ≤ (D.view disk.old).size }
-    ensures read { IfOk result (λ entries. (area : List ℕ) × ((D.view disk.old).told → area ≡ journal_of (D.view disk.old).bytes) × AreRead epoch RECORDS area entries.items) }
-    ensures damaged { (place found : ℕ) → IsErrOf result (OpenFault.Damaged place found) → (D.view disk.old).told → IsFirstWrong epoch RECORDS (journal_of (D.view disk.old).bytes) place found }
+    requires { DATA ≤ (D.view disk.old).size }
+    ensures read { IfOk result (λ entries. (area : List ℕ)
+        × ((D.view disk.old).told → area ≡ journal_of (D.view disk.old).bytes)
+        × AreRead epoch JOURNAL_RECORDS area entries.items) }
+    ensures damaged { (place found : ℕ) → IsErrOf result (OpenFault.Damaged place found)
+        → (D.view disk.old).told → IsFirstWrong epoch JOURNAL_RECORDS
+        (journal_of (D.view disk.old).bytes) place found }
     ensures any_moment { LeavesOnly (D.view disk.old).images (D.view disk.old) (D.view disk.new) }
     ensures quiet { OnOk result (Quiet PIECES (D.view disk.old) (D.view disk.new)) }
     ensures bytes { (D.view disk.old).told → (D.view disk.new).bytes ≡ (D.view disk.old).bytes }
@@ -102,7 +116,7 @@ pub fn read_records<D: Disk>(
     ensures ended { IfErr result (λ fault. EndedBy fault (D.view disk.old) (D.view disk.new)) }
 {
     let mut buffer = zeros(alloc, PIECE_LEN as usize)?;
-    let mut entries = Vec::with_capacity(alloc, RECORDS as usize)?;
+    let mut entries = Vec::with_capacity(alloc, JOURNAL_RECORDS as usize)?;
     read_pieces(disk, epoch, &mut buffer, &mut entries)?;
     Ok(entries)
 }

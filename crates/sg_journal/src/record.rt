@@ -4,8 +4,9 @@ ghost use Rattle.std.specs.Prelude.{◌≡◌, ◌==◌, ◌^◌, ◌+◌, ◌<�
 ghost use Rattle.sg_disk.specs.StandsFor.{fields};
 ghost use Rattle.sg_journal.specs.Records.{field, is_own, entry_of, wrong_play, wrong_of, wrong_at};
 
+use sg_base::limits::{JOURNAL_RECORDS, LAST_MOMENT, MAX_PLAYS};
 use sg_base::{Moment, PlayBody};
-use sg_disk::RECORDS;
+use sg_disk::RECORD_LEN;
 
 // Where the fields stand in a record.
 const NUMBER: usize = 4;
@@ -19,9 +20,6 @@ const FROM: usize = 16;
 const TO: usize = 20;
 
 const EPOCH: usize = 24;
-
-// The last second of 2099.
-const LAST_MOMENT: u32 = 4_102_444_799;
 
 /// An open record: a play and its number.
 #[derive(Clone, Copy, Debug)]
@@ -41,7 +39,8 @@ pub struct Wrong {
 pub fn record_fields(epoch: u32, number: u32, play: &PlayBody) -> [u8; 60]
     ensures fields { result ≡ fields epoch number play.now }
     ensures long { length result ≡ 60 }
-    ensures ranges { (play.now.event < 2 ^ 32) × (play.now.layout < 2 ^ 32) × (play.now.to ≤ 4102444799) }
+    ensures ranges { (play.now.event < 2 ^ 32) × (play.now.layout < 2 ^ 32)
+        × (play.now.to ≤ LAST_MOMENT) }
 {
     let event = play.event;
     let layout = play.layout;
@@ -75,7 +74,7 @@ fn field(bytes: &[u8], place: usize) -> u32
 fn is_own(k: u64, number: u32) -> bool
     ensures { result ≡ is_own k number }
 {
-    1 <= number && number < u32::MAX && u64::from(number - 1) % RECORDS == k
+    1 <= number && u64::from(number) <= MAX_PLAYS && u64::from(number - 1) % JOURNAL_RECORDS == k
 }
 
 // One thing that is wrong.
@@ -91,7 +90,7 @@ fn wrong_field(place: usize, found: u32) -> Option<Wrong>
 
 // What the play of a record has wrong.
 fn wrong_play(bytes: &[u8]) -> Option<Wrong>
-    requires { length bytes.now ≡ 64 }
+    requires { length bytes.now ≡ RECORD_LEN }
     ensures { result ≡ wrong_play bytes.now }
 {
     let from = field(bytes, FROM);
@@ -113,7 +112,7 @@ fn wrong_play(bytes: &[u8]) -> Option<Wrong>
 
 // What an open record has wrong.
 fn wrong_of(bytes: &[u8], k: u64, epoch: u32) -> Option<Wrong>
-    requires { length bytes.now ≡ 64 }
+    requires { length bytes.now ≡ RECORD_LEN }
     ensures { result ≡ wrong_of epoch k bytes.now }
 {
     let number = field(bytes, NUMBER);
@@ -129,10 +128,15 @@ fn wrong_of(bytes: &[u8], k: u64, epoch: u32) -> Option<Wrong>
 
 // The play of a record whose moments are none after 2099.
 fn read_play(bytes: &[u8]) -> PlayBody
-    requires long { length bytes.now ≡ 64 }
-    requires from { field bytes.now 16 ≤ 4102444799 }
-    requires to { field bytes.now 20 ≤ 4102444799 }
-    ensures { result ≡ record { event = field bytes.now 8; layout = field bytes.now 12; from = field bytes.now 16; to = field bytes.now 20 } }
+    requires long { length bytes.now ≡ RECORD_LEN }
+    requires from { field bytes.now FROM ≤ LAST_MOMENT }
+    requires to { field bytes.now TO ≤ LAST_MOMENT }
+    ensures { result ≡ record {
+      event = field bytes.now EVENT;
+      layout = field bytes.now LAYOUT;
+      from = field bytes.now FROM;
+      to = field bytes.now TO;
+    } }
 {
     PlayBody {
         event: field(bytes, EVENT),
@@ -144,7 +148,7 @@ fn read_play(bytes: &[u8]) -> PlayBody
 
 /// Reads record k of the ring. Where its gate isn't open there is no entry, and nothing is wrong with it.
 pub fn read_record(bytes: &[u8], k: u64, epoch: u32) -> Result<Option<Entry>, Wrong>
-    requires { length bytes.now ≡ 64 }
+    requires { length bytes.now ≡ RECORD_LEN }
     ensures entry { IfOk result (λ entry. entry ≡ entry_of bytes.now) }
     ensures sound { OnOk result (wrong_at epoch k bytes.now ≡ None) }
     ensures wrong { IfErr result (λ wrong. wrong_at epoch k bytes.now ≡ Some wrong) }

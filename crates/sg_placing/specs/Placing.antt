@@ -4,7 +4,8 @@ use Rattle.std.specs.Cmp.Lexicographic.{pointwise}
 use Rattle.sg_base.specs.declared.file.Listed.{Listed}
 use Rattle.sg_disk.specs.Contents.{Segment, StoredFile, IsClear, IsInside}
 use Rattle.sg_disk.specs.StandsFor.{place_of}
-use Rattle.sg_disk.specs.declared.places.TheConstants.{DATA, MAX_FILE_LEN}
+use Rattle.sg_base.specs.declared.limits.TheConstants.{MAX_FILE_LEN}
+use Rattle.sg_disk.specs.declared.places.TheConstants.{DATA}
 use Rattle.sg_placing.specs.declared.placed.Placed.{Placed}
 
 -- the bytes of a placed file: one segment of the listed length

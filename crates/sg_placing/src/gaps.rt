@@ -3,7 +3,8 @@ ghost use Rattle.std.specs.Prelude.{◌≡◌, ◌⊎◌, ℕ, ◌+◌, ◌<◌,
 ghost use Rattle.sg_placing.specs.Placing.{end_of, IsPlaced, AreClearOf, IsFree, IsLowest, IsLongest, NoneEndsBetween};
 
 use crate::placed::Placed;
-use sg_disk::{DATA, MAX_ROOM};
+use sg_base::limits::MAX_ROOM;
+use sg_disk::DATA;
 
 /// The front of the lowest gap that has `need` bytes, in a data area of `room` bytes with these current and staged files.
 /// `None` where there is no such gap. It goes over the files at most once for each file and once more, since no file is in
@@ -73,9 +74,12 @@ fn longest_behind(
     requires files { All (IsPlaced room) files.now }
     requires current { All (IsPlaced room) current.now }
     requires staged { All (IsPlaced room) staged.now }
-    ensures found { (result ≡ before) ⊎ ((place : ℕ) × IsFree room (current.now ++ staged.now) result place) }
+    ensures found { (result ≡ before) ⊎ ((place : ℕ)
+        × IsFree room (current.now ++ staged.now) result place) }
     ensures more { before ≤ result }
-    ensures most { All (λ p. (n q : ℕ) → end_of p ≤ q → NoneEndsBetween (current.now ++ staged.now) (end_of p) q → IsFree room (current.now ++ staged.now) n q → n ≤ result) files.now }
+    ensures most { All (λ p. (n q : ℕ) → end_of p ≤ q
+        → NoneEndsBetween (current.now ++ staged.now) (end_of p) q
+        → IsFree room (current.now ++ staged.now) n q → n ≤ result) files.now }
 {
     let mut longest = before;
     for file in files {
@@ -92,7 +96,8 @@ fn gap_at(room: u64, current: &[Placed], staged: &[Placed], place: u64) -> u32
     requires low { DATA ≤ place }
     requires high { place ≤ DATA + room }
     ensures found { 0 < result → IsFree room (current.now ++ staged.now) result place }
-    ensures most { (n q : ℕ) → place ≤ q → NoneEndsBetween (current.now ++ staged.now) place q → IsFree room (current.now ++ staged.now) n q → n ≤ result }
+    ensures most { (n q : ℕ) → place ≤ q → NoneEndsBetween (current.now ++ staged.now) place q
+        → IsFree room (current.now ++ staged.now) n q → n ≤ result }
 {
     let limit = first_behind(room, current, place, DATA + room);
     let end = first_behind(room, staged, place, limit);
@@ -105,7 +110,8 @@ fn first_behind(room: u64, files: &[Placed], place: u64, limit: u64) -> u64
     requires files { All (IsPlaced room) files.now }
     ensures within { result ≤ limit }
     ensures clear { (n : ℕ) → place + n ≤ result → AreClearOf files.now n place }
-    ensures most { (n q : ℕ) → q + n ≤ limit → NoneEndsBetween files.now place q → AreClearOf files.now n q → q + n ≤ result }
+    ensures most { (n q : ℕ) → q + n ≤ limit → NoneEndsBetween files.now place q
+        → AreClearOf files.now n q → q + n ≤ result }
 {
     let mut least = limit;
     for file in files {

@@ -3,7 +3,7 @@ ghost use Rattle.std.specs.Prelude.{◌≡◌, ◌≤◌, nat_le};
 ghost use Rattle.sg_placing.specs.Placing.{end_of, IsPlaced};
 
 use sg_base::Listed;
-use sg_disk::MAX_ROOM;
+use sg_base::limits::MAX_ROOM;
 
 /// A file, and where its bytes begin, counted from the disk's start.
 #[derive(Clone, Copy, Debug, PartialEq, Eq)]

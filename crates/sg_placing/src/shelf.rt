@@ -4,8 +4,8 @@ ghost use Rattle.std.specs.List.{list_any};
 ghost use Rattle.sg_placing.specs.Placing.{same_file};
 
 use crate::placed::Placed;
+use sg_base::limits::MANIFEST_FILES;
 use sg_base::{Listed, MediaId};
-use sg_disk::MAX_FILES;
 use std::alloc::{AllocError, Global};
 use std::marker::Model;
 
@@ -17,13 +17,14 @@ pub struct Shelf {
 
 impl Model for Shelf {
     ghost use Rattle.std.specs.Prelude.{List, vec_capacity, ◌≤◌};
+    ghost use Rattle.sg_base.specs.declared.limits.TheConstants.{MANIFEST_FILES};
     ghost use Rattle.sg_placing.specs.declared.placed.Placed.{Placed};
 
     ghost Value = { List Placed };
 
     ghost view = { λ s. s.files.items };
 
-    ghost invariant = { λ s. 512 ≤ vec_capacity s.files };
+    ghost invariant = { λ s. MANIFEST_FILES ≤ vec_capacity s.files };
 }
 
 impl Shelf {
@@ -31,7 +32,7 @@ impl Shelf {
     pub fn reserve(alloc: Global) -> Result<Shelf, AllocError>
         ensures { IfOk result (λ s. s ≡ []) }
     {
-        let files = Vec::with_capacity(alloc, MAX_FILES as usize)?;
+        let files = Vec::with_capacity(alloc, MANIFEST_FILES as usize)?;
         Ok(Shelf { files })
     }
 
@@ -44,7 +45,7 @@ impl Shelf {
 
     /// Puts a file behind the others.
     pub fn push(&mut self, file: Placed)
-        requires { length self.old < MAX_FILES }
+        requires { length self.old < MANIFEST_FILES }
         ensures { self.new ≡ self.old ++ file ∷ [] }
     {
         let _ = self.files.push(file);

@@ -8,7 +8,7 @@ use Rattle.sg_placing.specs.Placing.{IsPlaced}
 use Rattle.sg_placing.specs.declared.placed.Placed.{Placed}
 use Rattle.sg_slots.specs.Damage.{is_entry, entries_damage}
 use Rattle.sg_disk.specs.View.{range}
-use Rattle.sg_disk.specs.declared.places.TheConstants.{SLOT_ONE, ENTRY_LEN}
+use Rattle.sg_disk.specs.declared.places.TheConstants.{ENTRY_LEN, FIELDS, SLOT_ONE}
 use Rattle.sg_disk.proofs.Ranges.{range-range, byte_in}
 use Rattle.sg_slots.specs.Bytes.{u32_at, u64_at, placed_at, entries_of}
 use Rattle.sg_slots.specs.Slots.{slot_place, head_at}
@@ -27,11 +27,11 @@ unfolding u64_at
 u64_in_range c a l p le = ap (λ (bs : List ℕ). from_le_bytes w64 bs) (range-range c a l p 8 le)
 
 -- an open gate and a closed one
-pub head_open : (slot : Slot) (c : List ℕ) → get_or c (slot_place slot) 0 ≡ 1 → head_at slot c ≡ Some (record { number = u32_at c (slot_place slot + 4); text = u32_at c (slot_place slot + 8); count = u32_at c (slot_place slot + 12) })
-head_open slot c opened = ap (λ (b : Bool). if b then Some (record { number = u32_at c (slot_place slot + 4); text = u32_at c (slot_place slot + 8); count = u32_at c (slot_place slot + 12) }) else None) (eq-eqb (get_or c (slot_place slot) 0) 1 opened)
+pub head_open : (slot : Slot) (c : List ℕ) → get_or c (slot_place slot) 0 ≡ 1 → head_at slot c ≡ Some (record { number = u32_at c (slot_place slot + FIELDS); text = u32_at c (slot_place slot + 8); count = u32_at c (slot_place slot + 12) })
+head_open slot c opened = ap (λ (b : Bool). if b then Some (record { number = u32_at c (slot_place slot + FIELDS); text = u32_at c (slot_place slot + 8); count = u32_at c (slot_place slot + 12) }) else None) (eq-eqb (get_or c (slot_place slot) 0) 1 opened)
 
 pub head_closed : (slot : Slot) (c : List ℕ) → (get_or c (slot_place slot) 0 ≡ 1 → ⊥) → head_at slot c ≡ None
-head_closed slot c closed = ap (λ (b : Bool). if b then Some (record { number = u32_at c (slot_place slot + 4); text = u32_at c (slot_place slot + 8); count = u32_at c (slot_place slot + 12) }) else None) (ne_eqb (get_or c (slot_place slot) 0) 1 closed)
+head_closed slot c closed = ap (λ (b : Bool). if b then Some (record { number = u32_at c (slot_place slot + FIELDS); text = u32_at c (slot_place slot + 8); count = u32_at c (slot_place slot + 12) }) else None) (ne_eqb (get_or c (slot_place slot) 0) 1 closed)
 
 -- the gate of a slot that was read
 pub gate_read : (c head : List ℕ) (place : ℕ) → head ≡ range c place 16 → get_or head 0 0 ≡ get_or c place 0
@@ -44,7 +44,7 @@ none_read slot c head place at is closed = sym (head_closed slot c (λ opened. c
 pub some_read : (slot : Slot) (c head : List ℕ) (place number text count : ℕ) → place ≡ slot_place slot → head ≡ range c place 16 → get_or head 0 0 ≡ 1 → number ≡ u32_at head 4 → text ≡ u32_at head 8 → count ≡ u32_at head 12 → Some (record { number = number; text = text; count = count }) ≡ head_at slot c
 some_read slot c head place number text count at is opened first second third =
     let field : (p : ℕ) → p + 4 ≤ 16 → u32_at head p ≡ u32_at c (slot_place slot + p) = λ p le. ap (λ (l : List ℕ). u32_at l p) is ∙ u32_in_range c place 16 p le ∙ ap (λ (k : ℕ). u32_at c (k + p)) at in
-    let one : number ≡ u32_at c (slot_place slot + 4) = first ∙ field 4 (omega arith) in
+    let one : number ≡ u32_at c (slot_place slot + FIELDS) = first ∙ field 4 (omega arith) in
     let two : text ≡ u32_at c (slot_place slot + 8) = second ∙ field 8 (omega arith) in
     let three : count ≡ u32_at c (slot_place slot + 12) = third ∙ field 12 (omega arith) in
     rw (one, two, three) (sym (head_open slot c (sym (ap (λ (k : ℕ). get_or c k 0) at) ∙ sym (gate_read c head place is) ∙ opened)))

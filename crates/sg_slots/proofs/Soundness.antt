@@ -6,7 +6,8 @@ use Rattle.std.proofs.lemmas.List.{get_or_append_left, get_or_at}
 use Rattle.std.proofs.lemmas.List.Sums.{list_all-from_AllPass}
 use Rattle.sg_disk.specs.Contents.{Segment, StoredFile, Contents, IsClear, IsInside, IsSnapshot, IsRoom}
 use Rattle.sg_disk.specs.StandsFor.{HasFields, IsOpen, IsOther, AreSlots, StandsFor}
-use Rattle.sg_disk.specs.declared.places.TheConstants.{SLOT_ONE, TABLE, ENTRY_LEN, DATA, ROOM_UNIT, MAX_ROOM, MAX_FILES, MAX_TEXT, MAX_FILE_LEN}
+use Rattle.sg_base.specs.declared.limits.TheConstants.{MANIFEST_FILES, MANIFEST_TEXT, MAX_FILE_LEN, ROOM_UNIT, MAX_ROOM}
+use Rattle.sg_disk.specs.declared.places.TheConstants.{DATA, ENTRY_LEN, SLOT_ONE, TABLE}
 use Rattle.sg_disk.proofs.Extents.{extent_of, segments-extent}
 use Rattle.sg_placing.specs.Placing.{segment_of, placed_of, end_of, IsPlaced, AreApart}
 use Rattle.sg_placing.specs.declared.placed.Placed.{Placed}
@@ -53,11 +54,11 @@ header_undamaged p c stands =
     (format_passes (length c) (format_at c) (omega (arith, display, lawful.display.0)) (omega (arith, epoch, lawful.epoch.0)) (subst IsRoom (sym room) lawful.room) (stands.size ∙ ap (λ (n : ℕ). DATA + n) (sym room)))
 
 -- the fields of an open slot
-head_passes : (place : ℕ) (head : Head) → 1 ≤ head.number → (1 ≤ head.text) × (head.text ≤ MAX_TEXT) → head.count ≤ MAX_FILES → fields_damage place (Some head) ≡ None
+head_passes : (place : ℕ) (head : Head) → 1 ≤ head.number → (1 ≤ head.text) × (head.text ≤ MANIFEST_TEXT) → head.count ≤ MANIFEST_FILES → fields_damage place (Some head) ≡ None
 head_passes place head number text count =
-    both_pass (check (nat_le 1 head.number) (place + 4) head.number) (or_else (check (nat_le 1 head.text && nat_le head.text MAX_TEXT) (place + 8) head.text) (check (nat_le head.count MAX_FILES) (place + 12) head.count)) (passes (nat_le 1 head.number) (place + 4) head.number (le-leb 1 head.number number))
-    (both_pass (check (nat_le 1 head.text && nat_le head.text MAX_TEXT) (place + 8) head.text) (check (nat_le head.count MAX_FILES) (place + 12) head.count) (passes (nat_le 1 head.text && nat_le head.text MAX_TEXT) (place + 8) head.text (and_from (nat_le 1 head.text) (nat_le head.text MAX_TEXT) (le-leb 1 head.text text.0) (le-leb head.text MAX_TEXT text.1)))
-    (passes (nat_le head.count MAX_FILES) (place + 12) head.count (le-leb head.count MAX_FILES count)))
+    both_pass (check (nat_le 1 head.number) (place + 4) head.number) (or_else (check (nat_le 1 head.text && nat_le head.text MANIFEST_TEXT) (place + 8) head.text) (check (nat_le head.count MANIFEST_FILES) (place + 12) head.count)) (passes (nat_le 1 head.number) (place + 4) head.number (le-leb 1 head.number number))
+    (both_pass (check (nat_le 1 head.text && nat_le head.text MANIFEST_TEXT) (place + 8) head.text) (check (nat_le head.count MANIFEST_FILES) (place + 12) head.count) (passes (nat_le 1 head.text && nat_le head.text MANIFEST_TEXT) (place + 8) head.text (and_from (nat_le 1 head.text) (nat_le head.text MANIFEST_TEXT) (le-leb 1 head.text text.0) (le-leb head.text MANIFEST_TEXT text.1)))
+    (passes (nat_le head.count MANIFEST_FILES) (place + 12) head.count (le-leb head.count MANIFEST_FILES count)))
 
 -- its entries, one by one
 entry_passes : (room before : ℕ) (p : Placed) → before < p.file.media.0 → IsPlaced room p → is_entry room before p ≡ true

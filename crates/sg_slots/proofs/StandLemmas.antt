@@ -6,7 +6,8 @@ use Rattle.std.proofs.lemmas.List.{length-map, get_or-map}
 use Rattle.sg_disk.specs.View.{range}
 use Rattle.sg_disk.specs.Contents.{Segment, StoredFile, IsClear, IsInside, IsExtent, IsSnapshot, segments_of}
 use Rattle.sg_disk.specs.StandsFor.{le32, place_of, entry, HasFields, IsOpen, IsOther, IsCurrent}
-use Rattle.sg_disk.specs.declared.places.TheConstants.{SLOT_LEN, TABLE, ENTRY_LEN, MAX_FILES, MAX_ROOM}
+use Rattle.sg_base.specs.declared.limits.TheConstants.{MANIFEST_FILES, MAX_ROOM}
+use Rattle.sg_disk.specs.declared.places.TheConstants.{ENTRY_LEN, FIELDS, SLOT_LEN, TABLE}
 use Rattle.sg_disk.proofs.Ranges.{range-range, byte_in}
 use Rattle.sg_disk.proofs.Extents.{extent_of, segments-extent, segments_of-extents}
 use Rattle.sg_placing.specs.Placing.{segment_of, placed_of, AreApart}
@@ -30,7 +31,7 @@ field_of slot c p n le lt is = sym (u32_in_range c (slot_place slot) SLOT_LEN p 
 -- the head of an open slot
 pub head_stands : (slot : Slot) (c : List ℕ) (number : ℕ) (text : List ℕ) (files : List StoredFile) → number < 2 ^ 32 → length text < 2 ^ 32 → length files < 2 ^ 32 → IsOpen (slot_of slot c) → HasFields number text files (slot_of slot c) → head_at slot c ≡ Some (record { number = number; text = length text; count = length files })
 head_stands slot c number text files number_fits text_fits files_fit opened has =
-    let one : u32_at c (slot_place slot + 4) ≡ number = field_of slot c 4 number (omega arith) number_fits has.number_is in
+    let one : u32_at c (slot_place slot + FIELDS) ≡ number = field_of slot c 4 number (omega arith) number_fits has.number_is in
     let two : u32_at c (slot_place slot + 8) ≡ length text = field_of slot c 8 (length text) (omega arith) text_fits has.long in
     let three : u32_at c (slot_place slot + 12) ≡ length files = field_of slot c 12 (length files) (omega arith) files_fit has.count in
     head_open slot c (sym (gate_of slot c) ∙ opened) ∙ ap (λ (n : ℕ). made n (u32_at c (slot_place slot + 8)) (u32_at c (slot_place slot + 12))) one
@@ -40,7 +41,7 @@ head_stands slot c number text files number_fits text_fits files_fit opened has 
     made number text count = Some (record { number = number; text = text; count = count })
 
 -- its files
-pub files_stand : (slot : Slot) (c : List ℕ) (number : ℕ) (text : List ℕ) (files : List StoredFile) (head : Head) → length files ≤ MAX_FILES → All FitsEntry files → head.count ≡ length files → HasFields number text files (slot_of slot c) → files_of slot (Some head) c ≡ map placed_of files
+pub files_stand : (slot : Slot) (c : List ℕ) (number : ℕ) (text : List ℕ) (files : List StoredFile) (head : Head) → length files ≤ MANIFEST_FILES → All FitsEntry files → head.count ≡ length files → HasFields number text files (slot_of slot c) → files_of slot (Some head) c ≡ map placed_of files
 files_stand slot c number text files head few fit count has =
     let same : range c (slot_place slot + TABLE) (ENTRY_LEN * length files) ≡ flat_map entry files = sym (range-range c (slot_place slot) SLOT_LEN TABLE (ENTRY_LEN * length files) (omega (arith, few))) ∙ has.table in
     ap (λ (n : ℕ). entries_of (range c (slot_place slot + TABLE) (ENTRY_LEN * n)) n) count ∙ ap (λ (t : List ℕ). entries_of t (length files)) same ∙ entries_back files fit

@@ -1,7 +1,7 @@
 -- The two slots, and what each says.
 use Rattle.std.specs.Prelude.{ℕ, ◌+◌, ◌*◌, ◌==◌, List, [], Option, None, Some, if◌then◌else◌, slice_index, nat_lt}
 use Rattle.sg_disk.specs.View.{range}
-use Rattle.sg_disk.specs.declared.places.TheConstants.{SLOT_ZERO, SLOT_ONE, SLOT_LEN, TABLE, ENTRY_LEN}
+use Rattle.sg_disk.specs.declared.places.TheConstants.{COUNT, ENTRY_LEN, NUMBER, SLOT_LEN, SLOT_ONE, SLOT_ZERO, TABLE, TEXT_LEN}
 use Rattle.sg_placing.specs.declared.placed.Placed.{Placed}
 use Rattle.sg_slots.specs.Bytes.{u32_at, entries_of}
 use Rattle.sg_slots.specs.declared.slots.Slot.{Slot}
@@ -24,13 +24,18 @@ slot_of slot c = range c (slot_place slot) SLOT_LEN
 abbrev pub head_at : Slot → List ℕ → Option Head
 head_at slot c =
     if slice_index c (slot_place slot) == 1
-    then Some (record { number = u32_at c (slot_place slot + 4); text = u32_at c (slot_place slot + 8); count = u32_at c (slot_place slot + 12) })
+    then Some (record {
+      number = u32_at c (slot_place slot + NUMBER);
+      text = u32_at c (slot_place slot + TEXT_LEN);
+      count = u32_at c (slot_place slot + COUNT);
+    })
     else None
 
 -- the files of a slot whose gate is open
 abbrev pub files_of : Slot → Option Head → List ℕ → List Placed
 files_of slot None c = []
-files_of slot (Some head) c = entries_of (range c (slot_place slot + TABLE) (ENTRY_LEN * head.count)) head.count
+files_of slot (Some head) c = entries_of
+    (range c (slot_place slot + TABLE) (ENTRY_LEN * head.count)) head.count
 
 abbrev pub files_at : Slot → List ℕ → List Placed
 files_at slot c = files_of slot (head_at slot c) c

@@ -9,10 +9,11 @@ ghost use Rattle.sg_slots.specs.Refusals.{EndedBy};
 use crate::entries::{u32_in, u64_in};
 use crate::fault::OpenFault;
 use crate::formats::Format;
-use sg_disk::{DATA, Disk, MAX_ROOM, ROOM_UNIT};
+use sg_base::limits::{MAX_ROOM, ROOM_UNIT};
+use sg_disk::{DATA, DISPLAY, Disk, EPOCH, MARK, ROOM, VERSION};
 
 // `SGNSTORE`, low byte first.
-const MARK: u64 = 0x4552_4F54_534E_4753;
+const STORE: u64 = 0x4552_4F54_534E_4753;
 
 /// The fields of a header, which stand from its byte 4 on.
 pub fn header_fields_of(format: &Format) -> [u8; 28]
@@ -29,22 +30,39 @@ pub fn header_fields_of(format: &Format) -> [u8; 28]
 
 /// Syncs, and reads the header. A disk that is too short for a store, or whose gate isn't open, is unformatted.
 pub fn read_header<D: Disk>(disk: &mut D) -> Result<Format, OpenFault>
-    ensures unformatted { IsErrOf result OpenFault.Unformatted → ((D.view disk.new).size < DATA) ⊎ ((D.view disk.old).told → slice_index (D.view disk.old).bytes 0 ≢ 1) }
-    ensures damaged { (place found : ℕ) → IsErrOf result (OpenFault.Damaged place found) → (D.view disk.old).told → header_damage (D.view disk.new).size (D.view disk.old).bytes ≡ Some (record { place = place; found = found }) }
-    ensures ended { IfErr result (λ fault. EndedBy fault (D.view disk.old) (D.view disk.new)) }
-    ensures memory { IsErrOf result OpenFault.Memory → ⊥ }
-    ensures formatted { OnOk result ((D.view disk.old).told → slice_index (D.view disk.old).bytes 0 ≡ 1) }
-    ensures sound { OnOk result ((D.view disk.old).told → header_damage (D.view disk.new).size (D.view disk.old).bytes ≡ None) }
-    ensures display { IfOk result (λ h. (D.view disk.old).told → h.display ≡ u32_at (D.view disk.old).bytes 16) }
-    ensures epoch { IfOk result (λ h. (D.view disk.old).told → h.epoch ≡ u32_at (D.view disk.old).bytes 20) }
-    ensures room { IfOk result (λ h. (D.view disk.old).told → h.room ≡ u64_at (D.view disk.old).bytes 24) }
+
+    // A crash at any moment of it leaves what a crash before it could leave.
+    ensures any_moment { LeavesOnly (D.view disk.old).images (D.view disk.old) (D.view disk.new) }
+
+    // After `Ok` it has read a sound header, and a crash leaves what a read gives.
+    ensures formatted { OnOk result ((D.view disk.old).told
+        → slice_index (D.view disk.old).bytes 0 ≡ 1) }
+    ensures sound { OnOk result ((D.view disk.old).told
+        → header_damage (D.view disk.new).size (D.view disk.old).bytes ≡ None) }
+    ensures display { IfOk result (λ h. (D.view disk.old).told
+        → h.display ≡ u32_at (D.view disk.old).bytes DISPLAY) }
+    ensures epoch { IfOk result (λ h. (D.view disk.old).told
+        → h.epoch ≡ u32_at (D.view disk.old).bytes EPOCH) }
+    ensures room { IfOk result (λ h. (D.view disk.old).told
+        → h.room ≡ u64_at (D.view disk.old).bytes ROOM) }
     ensures few { IfOk result (λ h. h.room ≤ MAX_ROOM) }
     ensures size { IfOk result (λ h. (D.view disk.new).size ≡ DATA + h.room) }
-    ensures told_size { (D.view disk.old).told → (D.view disk.new).size ≡ (D.view disk.old).size }
-    ensures stable { OnOk result ((D.view disk.old).told → Only (D.view disk.old).bytes (D.view disk.new)) }
-    ensures bytes { OnOk result ((D.view disk.old).told → (D.view disk.new).bytes ≡ (D.view disk.old).bytes) }
+    ensures stable { OnOk result ((D.view disk.old).told
+        → Only (D.view disk.old).bytes (D.view disk.new)) }
+    ensures bytes { OnOk result ((D.view disk.old).told
+        → (D.view disk.new).bytes ≡ (D.view disk.old).bytes) }
     ensures ran { OnOk result (Ran 2 (D.view disk.old) (D.view disk.new)) }
-    ensures any_moment { LeavesOnly (D.view disk.old).images (D.view disk.old) (D.view disk.new) }
+
+    // Why it is refused, and what that leaves of the disk.
+    ensures unformatted { IsErrOf result OpenFault.Unformatted
+        → ((D.view disk.new).size < DATA)
+        ⊎ ((D.view disk.old).told → slice_index (D.view disk.old).bytes 0 ≢ 1) }
+    ensures damaged { (place found : ℕ) → IsErrOf result (OpenFault.Damaged place found)
+        → (D.view disk.old).told → header_damage (D.view disk.new).size (D.view disk.old).bytes
+        ≡ Some (record { place = place; found = found }) }
+    ensures memory { IsErrOf result OpenFault.Memory → ⊥ }
+    ensures ended { IfErr result (λ fault. EndedBy fault (D.view disk.old) (D.view disk.new)) }
+    ensures told_size { (D.view disk.old).told → (D.view disk.new).size ≡ (D.view disk.old).size }
 {
     disk.sync()?;
     let size = disk.len()?;
@@ -62,20 +80,22 @@ pub fn read_header<D: Disk>(disk: &mut D) -> Result<Format, OpenFault>
 // The fields of a header on a disk of this length.
 fn check_header(size: u64, bytes: &[u8]) -> Result<Format, OpenFault>
     requires { length bytes.now ≡ 32 }
-    ensures damaged { (place found : ℕ) → IsErrOf result (OpenFault.Damaged place found) → header_damage size bytes.now ≡ Some (record { place = place; found = found }) }
-    ensures only { OnErr result ((place : ℕ) × (found : ℕ) × IsErrOf result (OpenFault.Damaged place found)) }
+    ensures damaged { (place found : ℕ) → IsErrOf result (OpenFault.Damaged place found)
+        → header_damage size bytes.now ≡ Some (record { place = place; found = found }) }
+    ensures only { OnErr result ((place : ℕ) × (found : ℕ)
+        × IsErrOf result (OpenFault.Damaged place found)) }
     ensures sound { OnOk result (header_damage size bytes.now ≡ None) }
-    ensures display { IfOk result (λ h. h.display ≡ u32_at bytes.now 16) }
-    ensures epoch { IfOk result (λ h. h.epoch ≡ u32_at bytes.now 20) }
-    ensures room { IfOk result (λ h. h.room ≡ u64_at bytes.now 24) }
+    ensures display { IfOk result (λ h. h.display ≡ u32_at bytes.now DISPLAY) }
+    ensures epoch { IfOk result (λ h. h.epoch ≡ u32_at bytes.now EPOCH) }
+    ensures room { IfOk result (λ h. h.room ≡ u64_at bytes.now ROOM) }
     ensures few { IfOk result (λ h. h.room ≤ MAX_ROOM) }
     ensures size { IfOk result (λ h. size ≡ DATA + h.room) }
 {
-    check_mark(u32_in(bytes, 4), u64_in(bytes, 8))?;
+    check_mark(u32_in(bytes, VERSION), u64_in(bytes, MARK))?;
     let header = Format {
-        display: u32_in(bytes, 16),
-        epoch: u32_in(bytes, 20),
-        room: u64_in(bytes, 24),
+        display: u32_in(bytes, DISPLAY),
+        epoch: u32_in(bytes, EPOCH),
+        room: u64_in(bytes, ROOM),
     };
     check_fields(size, &header)?;
     Ok(header)
@@ -83,19 +103,21 @@ fn check_header(size: u64, bytes: &[u8]) -> Result<Format, OpenFault>
 
 // Looks at the version and the mark.
 fn check_mark(version: u32, mark: u64) -> Result<(), OpenFault>
-    ensures damaged { (place found : ℕ) → IsErrOf result (OpenFault.Damaged place found) → mark_damage version mark ≡ Some (record { place = place; found = found }) }
-    ensures only { OnErr result ((place : ℕ) × (found : ℕ) × IsErrOf result (OpenFault.Damaged place found)) }
+    ensures damaged { (place found : ℕ) → IsErrOf result (OpenFault.Damaged place found)
+        → mark_damage version mark ≡ Some (record { place = place; found = found }) }
+    ensures only { OnErr result ((place : ℕ) × (found : ℕ)
+        × IsErrOf result (OpenFault.Damaged place found)) }
     ensures sound { OnOk result (mark_damage version mark ≡ None) }
 {
     if version != 1 {
         return Err(OpenFault::Damaged {
-            place: 4,
+            place: VERSION,
             found: u64::from(version),
         });
     }
-    if mark != MARK {
+    if mark != STORE {
         return Err(OpenFault::Damaged {
-            place: 8,
+            place: MARK,
             found: mark,
         });
     }
@@ -104,27 +126,29 @@ fn check_mark(version: u32, mark: u64) -> Result<(), OpenFault>
 
 // Looks at the display, the epoch and the length of the data area.
 fn check_fields(size: u64, header: &Format) -> Result<(), OpenFault>
-    ensures damaged { (place found : ℕ) → IsErrOf result (OpenFault.Damaged place found) → format_damage size header.now ≡ Some (record { place = place; found = found }) }
-    ensures only { OnErr result ((place : ℕ) × (found : ℕ) × IsErrOf result (OpenFault.Damaged place found)) }
+    ensures damaged { (place found : ℕ) → IsErrOf result (OpenFault.Damaged place found)
+        → format_damage size header.now ≡ Some (record { place = place; found = found }) }
+    ensures only { OnErr result ((place : ℕ) × (found : ℕ)
+        × IsErrOf result (OpenFault.Damaged place found)) }
     ensures sound { OnOk result (format_damage size header.now ≡ None) }
     ensures few { OnOk result (header.now.room ≤ MAX_ROOM) }
     ensures size { OnOk result (size ≡ DATA + header.now.room) }
 {
     if header.display == 0 {
         return Err(OpenFault::Damaged {
-            place: 16,
+            place: DISPLAY,
             found: 0,
         });
     }
     if header.epoch == 0 {
         return Err(OpenFault::Damaged {
-            place: 20,
+            place: EPOCH,
             found: 0,
         });
     }
     if !is_room(header.room) || size != DATA + header.room {
         return Err(OpenFault::Damaged {
-            place: 24,
+            place: ROOM,
             found: header.room,
         });
     }

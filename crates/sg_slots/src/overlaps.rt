@@ -5,15 +5,19 @@ ghost use Rattle.sg_slots.specs.Damage.{is_apart, overlap_damage};
 
 use crate::fault::OpenFault;
 use crate::slots::Slot;
-use sg_disk::{ENTRY_LEN, MAX_FILES, TABLE};
+use sg_base::limits::MANIFEST_FILES;
+use sg_disk::{ENTRY_LEN, TABLE};
 use sg_placing::Placed;
 
 /// Looks whether each file of a slot is apart from those before it. It goes over the earlier files of each file, at most
 /// 512 by 512 comparisons.
 pub fn check_apart(slot: Slot, files: &[Placed]) -> Result<(), OpenFault>
-    requires { length files.now ≤ MAX_FILES }
-    ensures damaged { (place found : ℕ) → IsErrOf result (OpenFault.Damaged place found) → overlap_damage (slot_place slot + TABLE) [] files.now ≡ Some (record { place = place; found = found }) }
-    ensures only { OnErr result ((place : ℕ) × (found : ℕ) × IsErrOf result (OpenFault.Damaged place found)) }
+    requires { length files.now ≤ MANIFEST_FILES }
+    ensures damaged { (place found : ℕ) → IsErrOf result (OpenFault.Damaged place found)
+        → overlap_damage (slot_place slot + TABLE) [] files.now
+        ≡ Some (record { place = place; found = found }) }
+    ensures only { OnErr result ((place : ℕ) × (found : ℕ)
+        × IsErrOf result (OpenFault.Damaged place found)) }
     ensures sound { OnOk result (overlap_damage (slot_place slot + TABLE) [] files.now ≡ None) }
 {
     for i in 0..files.len() {

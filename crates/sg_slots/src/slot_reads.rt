@@ -12,15 +12,15 @@ ghost use Rattle.sg_slots.specs.Refusals.{EndedBy};
 use crate::entries::{placed_in, u32_in};
 use crate::fault::OpenFault;
 use crate::slots::{Head, Slot};
-use sg_disk::{
-    DATA, Disk, DiskFailed, ENTRY_LEN, MAX_FILE_LEN, MAX_FILES, MAX_ROOM, MAX_TEXT, TABLE,
-};
+use sg_base::limits::{MANIFEST_FILES, MANIFEST_TEXT, MAX_FILE_LEN, MAX_ROOM};
+use sg_disk::{COUNT, DATA, Disk, DiskFailed, ENTRY_LEN, NUMBER, TABLE, TABLE_LEN, TEXT_LEN};
 use sg_placing::{Placed, Shelf};
 
 // The fields of a slot whose gate is open. It makes one call.
 fn read_head<D: Disk>(disk: &mut D, slot: Slot) -> Result<Option<Head>, DiskFailed>
     requires disk { DATA ≤ (D.view disk.old).size }
-    ensures head { IfOk result (λ h. (D.view disk.old).told → h ≡ head_at slot (D.view disk.old).bytes) }
+    ensures head { IfOk result (λ h. (D.view disk.old).told
+        → h ≡ head_at slot (D.view disk.old).bytes) }
     ensures quiet { OnOk result (Quiet 1 (D.view disk.old) (D.view disk.new)) }
     ensures any_moment { LeavesOnly (D.view disk.old).images (D.view disk.old) (D.view disk.new) }
     ensures size { (D.view disk.new).size ≡ (D.view disk.old).size }
@@ -32,29 +32,32 @@ fn read_head<D: Disk>(disk: &mut D, slot: Slot) -> Result<Option<Head>, DiskFail
         return Ok(None);
     }
     Ok(Some(Head {
-        number: u32_in(&bytes, 4),
-        text: u32_in(&bytes, 8),
-        count: u32_in(&bytes, 12),
+        number: u32_in(&bytes, NUMBER),
+        text: u32_in(&bytes, TEXT_LEN),
+        count: u32_in(&bytes, COUNT),
     }))
 }
 
 // Looks at the fields of an open slot.
 fn check_head(slot: Slot, head: &Head) -> Result<(), OpenFault>
-    ensures damaged { (place found : ℕ) → IsErrOf result (OpenFault.Damaged place found) → fields_damage (slot_place slot) (Some head.now) ≡ Some (record { place = place; found = found }) }
-    ensures only { OnErr result ((place : ℕ) × (found : ℕ) × IsErrOf result (OpenFault.Damaged place found)) }
+    ensures damaged { (place found : ℕ) → IsErrOf result (OpenFault.Damaged place found)
+        → fields_damage (slot_place slot) (Some head.now)
+        ≡ Some (record { place = place; found = found }) }
+    ensures only { OnErr result ((place : ℕ) × (found : ℕ)
+        × IsErrOf result (OpenFault.Damaged place found)) }
     ensures sound { OnOk result (fields_damage (slot_place slot) (Some head.now) ≡ None) }
-    ensures count { OnOk result (head.now.count ≤ MAX_FILES) }
-    ensures text { OnOk result (head.now.text ≤ MAX_TEXT) }
+    ensures count { OnOk result (head.now.count ≤ MANIFEST_FILES) }
+    ensures text { OnOk result (head.now.text ≤ MANIFEST_TEXT) }
 {
     let place = slot.place();
     if head.number == 0 {
-        return Err(damage(place + 4, head.number));
+        return Err(damage(place + NUMBER, head.number));
     }
-    if head.text == 0 || u64::from(head.text) > MAX_TEXT {
-        return Err(damage(place + 8, head.text));
+    if head.text == 0 || u64::from(head.text) > MANIFEST_TEXT {
+        return Err(damage(place + TEXT_LEN, head.text));
     }
-    if u64::from(head.count) > MAX_FILES {
-        return Err(damage(place + 12, head.count));
+    if u64::from(head.count) > MANIFEST_FILES {
+        return Err(damage(place + COUNT, head.count));
     }
     Ok(())
 }
@@ -89,17 +92,19 @@ fn read_table<D: Disk>(
     table: &mut Vec<u8>,
 ) -> Result<(), DiskFailed>
     requires disk { DATA ≤ (D.view disk.old).size }
-    requires count { count ≤ MAX_FILES }
-    requires room { 16384 ≤ vec_capacity table.old }
-    ensures table { OnOk result ((D.view disk.old).told → table.new.items ≡ range (D.view disk.old).bytes (slot_place slot + TABLE) (ENTRY_LEN * count)) }
+    requires count { count ≤ MANIFEST_FILES }
+    requires room { TABLE_LEN ≤ vec_capacity table.old }
+    ensures table { OnOk result ((D.view disk.old).told
+        → table.new.items ≡ range (D.view disk.old).bytes (slot_place slot + TABLE)
+        (ENTRY_LEN * count)) }
     ensures len { vec_len table.new ≡ ENTRY_LEN * count }
-    ensures room { 16384 ≤ vec_capacity table.new }
+    ensures room { TABLE_LEN ≤ vec_capacity table.new }
     ensures quiet { OnOk result (Quiet 1 (D.view disk.old) (D.view disk.new)) }
     ensures any_moment { LeavesOnly (D.view disk.old).images (D.view disk.old) (D.view disk.new) }
     ensures size { (D.view disk.new).size ≡ (D.view disk.old).size }
     ensures broke { OnErr result (Broke (D.view disk.old) (D.view disk.new)) }
 {
-    set_len(table, 32 * count as usize);
+    set_len(table, ENTRY_LEN as usize * count as usize);
     disk.read(slot.place() + TABLE, table.as_mut_slice())?;
     Ok(())
 }
@@ -127,19 +132,23 @@ fn read_entries(
     files: &mut Shelf,
 ) -> Result<(), OpenFault>
     requires room { room ≤ MAX_ROOM }
-    requires count { count ≤ MAX_FILES }
+    requires count { count ≤ MANIFEST_FILES }
     requires table { length table.now ≡ ENTRY_LEN * count }
-    ensures damaged { (place found : ℕ) → IsErrOf result (OpenFault.Damaged place found) → entries_damage room (slot_place slot + TABLE) 0 (entries_of table.now count) ≡ Some (record { place = place; found = found }) }
-    ensures only { OnErr result ((place : ℕ) × (found : ℕ) × IsErrOf result (OpenFault.Damaged place found)) }
-    ensures sound { OnOk result (entries_damage room (slot_place slot + TABLE) 0 (entries_of table.now count) ≡ None) }
+    ensures damaged { (place found : ℕ) → IsErrOf result (OpenFault.Damaged place found)
+        → entries_damage room (slot_place slot + TABLE) 0 (entries_of table.now count)
+        ≡ Some (record { place = place; found = found }) }
+    ensures only { OnErr result ((place : ℕ) × (found : ℕ)
+        × IsErrOf result (OpenFault.Damaged place found)) }
+    ensures sound { OnOk result (entries_damage room (slot_place slot + TABLE) 0
+        (entries_of table.now count) ≡ None) }
     ensures files { OnOk result (files.new ≡ entries_of table.now count) }
     ensures placed { OnOk result (All (IsPlaced room) files.new) }
-    ensures few { OnOk result (length files.new ≤ MAX_FILES) }
+    ensures few { OnOk result (length files.new ≤ MANIFEST_FILES) }
 {
     files.clear();
     let mut before = 0;
     for i in 0..count {
-        let entry = placed_in(table, 32 * i as usize);
+        let entry = placed_in(table, ENTRY_LEN * u64::from(i));
         if !is_sound(room, before, &entry) {
             return Err(damage(
                 slot.place() + TABLE + ENTRY_LEN * u64::from(i),
@@ -162,21 +171,32 @@ pub fn read_slot<D: Disk>(
 ) -> Result<Option<Head>, OpenFault>
     requires disk { DATA ≤ (D.view disk.old).size }
     requires room { room ≤ MAX_ROOM }
-    requires table { 16384 ≤ vec_capacity table.old }
-    ensures damaged { (place found : ℕ) → IsErrOf result (OpenFault.Damaged place found) → (D.view disk.old).told → slot_damage room slot (D.view disk.old).bytes ≡ Some (record { place = place; found = found }) }
+    requires table { TABLE_LEN ≤ vec_capacity table.old }
+
+    // The disk stays as it is, at every moment.
+    ensures any_moment { LeavesOnly (D.view disk.old).images (D.view disk.old) (D.view disk.new) }
+    ensures size { (D.view disk.new).size ≡ (D.view disk.old).size }
+    ensures quiet { OnOk result (Quiet 0 (D.view disk.old) (D.view disk.new)) }
+
+    // After `Ok` it has read a sound slot.
+    ensures sound { OnOk result ((D.view disk.old).told
+        → slot_damage room slot (D.view disk.old).bytes ≡ None) }
+    ensures head { IfOk result (λ h. (D.view disk.old).told
+        → h ≡ head_at slot (D.view disk.old).bytes) }
+    ensures files { OnOk result ((D.view disk.old).told
+        → files.new ≡ files_at slot (D.view disk.old).bytes) }
+    ensures text { IfOk result (λ h. ForSome h (λ x. x.text ≤ MANIFEST_TEXT)) }
+    ensures placed { OnOk result (All (IsPlaced room) files.new) }
+    ensures few { OnOk result (length files.new ≤ MANIFEST_FILES) }
+    ensures table { TABLE_LEN ≤ vec_capacity table.new }
+
+    // Why it is refused, and what that leaves of the disk.
+    ensures damaged { (place found : ℕ) → IsErrOf result (OpenFault.Damaged place found)
+        → (D.view disk.old).told → slot_damage room slot (D.view disk.old).bytes
+        ≡ Some (record { place = place; found = found }) }
     ensures ended { IfErr result (λ fault. EndedBy fault (D.view disk.old) (D.view disk.new)) }
     ensures formatted { IsErrOf result OpenFault.Unformatted → ⊥ }
     ensures memory { IsErrOf result OpenFault.Memory → ⊥ }
-    ensures sound { OnOk result ((D.view disk.old).told → slot_damage room slot (D.view disk.old).bytes ≡ None) }
-    ensures head { IfOk result (λ h. (D.view disk.old).told → h ≡ head_at slot (D.view disk.old).bytes) }
-    ensures files { OnOk result ((D.view disk.old).told → files.new ≡ files_at slot (D.view disk.old).bytes) }
-    ensures text { IfOk result (λ h. ForSome h (λ x. x.text ≤ MAX_TEXT)) }
-    ensures placed { OnOk result (All (IsPlaced room) files.new) }
-    ensures few { OnOk result (length files.new ≤ MAX_FILES) }
-    ensures table { 16384 ≤ vec_capacity table.new }
-    ensures quiet { OnOk result (Quiet 0 (D.view disk.old) (D.view disk.new)) }
-    ensures any_moment { LeavesOnly (D.view disk.old).images (D.view disk.old) (D.view disk.new) }
-    ensures size { (D.view disk.new).size ≡ (D.view disk.old).size }
 {
     let Some(head) = read_head(disk, slot)? else {
         files.clear();

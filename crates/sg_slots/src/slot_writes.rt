@@ -1,5 +1,5 @@
 // The writing of a slot.
-ghost use Rattle.std.specs.Prelude.{◌≡◌, ◌+◌, ◌*◌, ◌≤◌, ◌++◌, ◌==◌, length, replicate, OnOk, OnErr, vec_len, vec_capacity, if◌then◌else◌};
+ghost use Rattle.std.specs.Prelude.{◌≡◌, ◌+◌, ◌*◌, ◌≤◌, ◌++◌, ◌==◌, ◌-◌, length, replicate, OnOk, OnErr, vec_len, vec_capacity, if◌then◌else◌};
 ghost use Rattle.std.specs.List.{flat_map};
 ghost use Rattle.sg_disk.specs.View.{put, Only};
 ghost use Rattle.sg_disk.specs.Runs.{Ran, Broke, Within};
@@ -7,7 +7,8 @@ ghost use Rattle.sg_slots.specs.Bytes.{head_fields, placed_entry, table_bytes};
 ghost use Rattle.sg_slots.specs.Slots.{slot_place};
 
 use crate::slots::Slot;
-use sg_disk::{DATA, Disk, DiskFailed, MAX_FILES, MAX_TEXT, TABLE, TEXT};
+use sg_base::limits::{MANIFEST_FILES, MANIFEST_TEXT};
+use sg_disk::{DATA, Disk, DiskFailed, ENTRY_LEN, FIELDS, SLOT_LEN, TABLE, TABLE_LEN, TEXT};
 use sg_placing::Placed;
 
 /// The fields of a slot that stand behind its gate: switch number, length of the text, number of files.
@@ -35,9 +36,9 @@ fn put_bytes(table: &mut Vec<u8>, bytes: &[u8])
 
 // Puts a file's entry behind the others.
 fn put_entry(table: &mut Vec<u8>, placed: &Placed)
-    requires { vec_len table.old + 32 ≤ vec_capacity table.old }
+    requires { vec_len table.old + ENTRY_LEN ≤ vec_capacity table.old }
     ensures items { table.new.items ≡ table.old.items ++ placed_entry placed.now }
-    ensures len { vec_len table.new ≡ vec_len table.old + 32 }
+    ensures len { vec_len table.new ≡ vec_len table.old + ENTRY_LEN }
     ensures room { vec_capacity table.old ≤ vec_capacity table.new }
 {
     put_bytes(table, &placed.file.media.0.to_le_bytes());
@@ -56,17 +57,26 @@ pub fn fill_slot<D: Disk>(
 ) -> Result<(), DiskFailed>
     requires disk { DATA ≤ (D.view disk.old).size }
     requires head { length head.now ≡ 12 }
-    requires table { length table.now ≤ 16384 }
-    requires text { length text.now ≤ MAX_TEXT }
-    ensures within { Within (slot_place slot + 4) 1069052 (D.view disk.old) (D.view disk.new) }
-    ensures written { OnOk result ((D.view disk.old).told → (D.view disk.new).bytes ≡ put (put (put (D.view disk.old).bytes (slot_place slot + 4) head.now) (slot_place slot + TABLE) table.now) (slot_place slot + TEXT) text.now) }
-    ensures stable { OnOk result ((D.view disk.old).told → Only (D.view disk.new).bytes (D.view disk.new)) }
+    requires table { length table.now ≤ TABLE_LEN }
+    requires text { length text.now ≤ MANIFEST_TEXT }
+
+    // Every moment of the call keeps what stands outside these bytes of the slot.
+    ensures within { Within (slot_place slot + FIELDS) (SLOT_LEN - FIELDS) (D.view disk.old)
+        (D.view disk.new) }
     ensures size { (D.view disk.new).size ≡ (D.view disk.old).size }
+
+    // After `Ok` a crash leaves exactly the bytes with these written.
+    ensures written { OnOk result ((D.view disk.old).told
+        → (D.view disk.new).bytes
+        ≡ put (put (put (D.view disk.old).bytes (slot_place slot + FIELDS) head.now)
+        (slot_place slot + TABLE) table.now) (slot_place slot + TEXT) text.now) }
+    ensures stable { OnOk result ((D.view disk.old).told
+        → Only (D.view disk.new).bytes (D.view disk.new)) }
     ensures ran { OnOk result (Ran 4 (D.view disk.old) (D.view disk.new)) }
     ensures broke { OnErr result (Broke (D.view disk.old) (D.view disk.new)) }
 {
     let place = slot.place();
-    disk.write_at(place + 4, head)?;
+    disk.write_at(place + FIELDS, head)?;
     disk.write_at(place + TABLE, table)?;
     disk.write_at(place + TEXT, text)?;
     disk.sync()?;
@@ -75,15 +85,15 @@ pub fn fill_slot<D: Disk>(
 
 /// Makes the table of these files in a buffer: an entry for each, or one of zeros where there is none.
 pub fn fill_table(table: &mut Vec<u8>, files: &[Placed])
-    requires room { 16384 ≤ vec_capacity table.old }
-    requires few { length files.now ≤ MAX_FILES }
+    requires room { TABLE_LEN ≤ vec_capacity table.old }
+    requires few { length files.now ≤ MANIFEST_FILES }
     ensures items { table.new.items ≡ table_bytes files.now }
-    ensures len { vec_len table.new ≤ 16384 }
-    ensures room { 16384 ≤ vec_capacity table.new }
+    ensures len { vec_len table.new ≤ TABLE_LEN }
+    ensures room { TABLE_LEN ≤ vec_capacity table.new }
 {
     table.clear();
     if files.is_empty() {
-        put_bytes(table, &[0; 32]);
+        put_bytes(table, &[0; ENTRY_LEN as usize]);
         return;
     }
     put_entries(table, files);
@@ -92,11 +102,11 @@ pub fn fill_table(table: &mut Vec<u8>, files: &[Placed])
 // Puts the entries of files behind each other. At most 512 turns.
 fn put_entries(table: &mut Vec<u8>, files: &[Placed])
     requires empty { vec_len table.old ≡ 0 }
-    requires room { 16384 ≤ vec_capacity table.old }
-    requires few { length files.now ≤ MAX_FILES }
+    requires room { TABLE_LEN ≤ vec_capacity table.old }
+    requires few { length files.now ≤ MANIFEST_FILES }
     ensures items { table.new.items ≡ flat_map placed_entry files.now }
-    ensures len { vec_len table.new ≡ 32 * length files.now }
-    ensures room { 16384 ≤ vec_capacity table.new }
+    ensures len { vec_len table.new ≡ ENTRY_LEN * length files.now }
+    ensures room { TABLE_LEN ≤ vec_capacity table.new }
 {
     for placed in files {
         put_entry(table, placed);

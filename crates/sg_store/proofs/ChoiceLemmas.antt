@@ -10,7 +10,8 @@ use Rattle.sg_base.specs.declared.file.Listed.{Listed}
 use Rattle.sg_disk.specs.View.{range}
 use Rattle.sg_disk.specs.Contents.{Segment, StoredFile, IsClear, IsInside, IsExtent, IsSnapshot}
 use Rattle.sg_disk.specs.StandsFor.{place_of, entry, IsHeld, AreFiles}
-use Rattle.sg_disk.specs.declared.places.TheConstants.{DATA, MAX_FILES, MAX_TEXT, MAX_FILE_LEN}
+use Rattle.sg_base.specs.declared.limits.TheConstants.{MANIFEST_FILES, MANIFEST_TEXT, MAX_FILE_LEN}
+use Rattle.sg_disk.specs.declared.places.TheConstants.{DATA}
 use Rattle.sg_disk.proofs.Ranges.{range-range, length-range}
 use Rattle.sg_disk.proofs.Extents.{extent_of, apart_extents}
 use Rattle.sg_placing.specs.Placing.{segment_of, segments_of_placed, placed_of, same_file, IsPlaced, AreApart}
@@ -133,7 +134,7 @@ apart_members files f g m n apart ids = elim (cases_lt m.k n.k) [
 ]
 
 -- the files of a new snapshot are sound
-pub stored_snapshot : (room number : ℕ) (text : List ℕ) (files : List Placed) (c : List ℕ) (listed : List Listed) → (1 ≤ number) × (number < 2 ^ 32) → (1 ≤ length text) × (length text ≤ MAX_TEXT) → length listed ≤ MAX_FILES → AllPairs (λ f g. f.media.0 < g.media.0) listed → All (λ f. is_some (placed_as files f) ≡ true) listed → All (IsPlaced room) files → All (λ p. length p.file.md5 ≡ 16) files → AreApart files → IsSnapshot room number text (map (stored_file files c) listed)
+pub stored_snapshot : (room number : ℕ) (text : List ℕ) (files : List Placed) (c : List ℕ) (listed : List Listed) → (1 ≤ number) × (number < 2 ^ 32) → (1 ≤ length text) × (length text ≤ MANIFEST_TEXT) → length listed ≤ MANIFEST_FILES → AllPairs (λ f g. f.media.0 < g.media.0) listed → All (λ f. is_some (placed_as files f) ≡ true) listed → All (IsPlaced room) files → All (λ p. length p.file.md5 ≡ 16) files → AreApart files → IsSnapshot room number text (map (stored_file files c) listed)
 stored_snapshot room number text files c listed number_ok text_ok few ascending held placed whole apart =
     let F : List StoredFile = map (stored_file files c) listed in
     let m : (k : ℕ) → (lt : k < length listed) → Member files (get_or listed k nothing_listed) = λ k lt. member_at files listed k held lt in

@@ -1,5 +1,5 @@
 -- The fields of a slot that was filled, and the store after a switch.
-use Rattle.std.proofs.Common.{◌≡◌, inl, inr, ℕ, zero, suc, ◌+◌, ◌*◌, ◌<◌, ◌≤◌, ◌^◌, ◌↔◌, ◌==◌, Bool, true, not, List, [], ◌∷◌, length, map, replicate, Option, None, Some, MatchOption, All, AllPairs, get_or, refl, sym, ◌∙◌, ap, subst, arith, length-append}
+use Rattle.std.proofs.Common.{◌≡◌, inl, inr, ℕ, zero, suc, ◌+◌, ◌*◌, ◌<◌, ◌≤◌, ◌^◌, ◌↔◌, ◌==◌, Bool, true, not, List, [], ◌∷◌, length, map, replicate, Option, None, Some, MatchOption, All, AllPairs, get_or, refl, sym, ◌∙◌, ◌-◌, ap, subst, arith, length-append}
 use Rattle.std.proofs.lemmas.List.Elements.{All-append}
 use Rattle.std.specs.List.{flat_map}
 use Rattle.md5.proofs.StandardFacts.{length-md5}
@@ -10,7 +10,8 @@ use Rattle.sg_disk.specs.View.{View, range, put, Torn, Only}
 use Rattle.sg_disk.specs.Runs.{Within, LeavesOnly}
 use Rattle.sg_disk.specs.Contents.{StoredFile, Contents, IsClear, IsSnapshot, IsLawful, switched}
 use Rattle.sg_disk.specs.StandsFor.{le32, entry, HasFields, IsOpen, IsCurrent, AreFiles, StandsFor}
-use Rattle.sg_disk.specs.declared.places.TheConstants.{SLOT_LEN, TABLE, TEXT, ENTRY_LEN, JOURNAL, DATA, MAX_FILES, MAX_TEXT}
+use Rattle.sg_base.specs.declared.limits.TheConstants.{MANIFEST_FILES, MANIFEST_TEXT}
+use Rattle.sg_disk.specs.declared.places.TheConstants.{DATA, ENTRY_LEN, FIELDS, JOURNAL, SLOT_LEN, TABLE, TABLE_LEN, TEXT}
 use Rattle.sg_disk.proofs.Ranges.{range_kept, range_put, range-range, put_is_torn, length-put}
 use Rattle.sg_disk.proofs.Standing.{settled_by, settled_read}
 use Rattle.sg_disk.proofs.Writes.{one_stable, bytes_kept}
@@ -51,7 +52,7 @@ unfolding range
 range_empty c place = refl
 
 -- the entries of a table
-table_front : (files : List StoredFile) (long : length (table_bytes (map placed_of files)) ≤ 16384) → length (flat_map entry files) ≡ ENTRY_LEN * length files → range (table_bytes (map placed_of files)) 0 (ENTRY_LEN * length files) ≡ flat_map entry files
+table_front : (files : List StoredFile) (long : length (table_bytes (map placed_of files)) ≤ TABLE_LEN) → length (flat_map entry files) ≡ ENTRY_LEN * length files → range (table_bytes (map placed_of files)) 0 (ENTRY_LEN * length files) ≡ flat_map entry files
 table_front [] long is = range_empty (replicate 32 0) 0
 table_front (f ∷ files) long is = range_all (table_bytes (map placed_of (f ∷ files))) (ENTRY_LEN * length (f ∷ files)) (ap length (entries_same (f ∷ files)) ∙ is) ∙ entries_same (f ∷ files)
 
@@ -61,8 +62,8 @@ table_room [] is = omega arith
 table_room (f ∷ files) is = omega (arith, is, ap length (entries_same (f ∷ files)))
 
 -- what was written in a slot
-pub slot_filled : (slot : Slot) (c d : List ℕ) (number : ℕ) (text : List ℕ) (files : List StoredFile) → DATA ≤ length c → length text ≤ MAX_TEXT → length files ≤ MAX_FILES → length (table_bytes (map placed_of files)) ≤ 16384 → length (flat_map entry files) ≡ ENTRY_LEN * length files
-    → d ≡ put (put (put c (slot_place slot + 4) (head_fields number (length text) (length files))) (slot_place slot + TABLE) (table_bytes (map placed_of files))) (slot_place slot + TEXT) text → HasFields number text files (slot_of slot d)
+pub slot_filled : (slot : Slot) (c d : List ℕ) (number : ℕ) (text : List ℕ) (files : List StoredFile) → DATA ≤ length c → length text ≤ MANIFEST_TEXT → length files ≤ MANIFEST_FILES → length (table_bytes (map placed_of files)) ≤ TABLE_LEN → length (flat_map entry files) ≡ ENTRY_LEN * length files
+    → d ≡ put (put (put c (slot_place slot + FIELDS) (head_fields number (length text) (length files))) (slot_place slot + TABLE) (table_bytes (map placed_of files))) (slot_place slot + TEXT) text → HasFields number text files (slot_of slot d)
 slot_filled slot c d number text files large text_fits few table_fits entries is =
     let place : ℕ = slot_place slot in
     let high = place_high slot in
@@ -116,11 +117,11 @@ number_fits p lawful = number_in p.room p.number p.text p.files lawful.snapshot
 
 -- what a switch asks for
 pub record Asks (s : Store) (text : List ℕ) (files : List Listed) : Type 0 where
-  pub few : length files ≤ MAX_FILES
+  pub few : length files ≤ MANIFEST_FILES
   pub ascending : AllPairs (λ f g. f.media.0 < g.media.0) files
   pub held : All (λ f. is_held s f ≡ true) files
   pub some : 1 ≤ length text
-  pub long : length text ≤ MAX_TEXT
+  pub long : length text ≤ MANIFEST_TEXT
   pub left : s.number ≡ 4294967295 → ⊥
 
 -- the files that are whole stand in the data area, apart
@@ -146,14 +147,14 @@ next_held v s p text files ready placed asks =
     stored_held p.room (whole_files s) v.bytes files stands.size asks.held inside ready.staged.whole
 
 -- the spare slot after its filling
-pub filled_by : (u v w : View) (s : Store) (p : Contents) (text : List ℕ) (files : List Listed) (head table : List ℕ) → IsReady u s p → All (IsPlaced s.room) (whole_files s) → Asks s text files → Closed v p s.spare → Within (slot_place s.spare) 1 u v → w.told → Only w.bytes w → Within (slot_place s.spare + 4) 1069052 v w → LeavesOnly (StandsFor p) v w
-    → w.bytes ≡ put (put (put v.bytes (slot_place s.spare + 4) head) (slot_place s.spare + TABLE) table) (slot_place s.spare + TEXT) text → head ≡ head_fields (s.number + 1) (length text) (length files) → table ≡ table_bytes (map (chosen (whole_files s)) files) → length table ≤ 16384 → Filled w p s.spare text (stored_files s u.bytes files)
+pub filled_by : (u v w : View) (s : Store) (p : Contents) (text : List ℕ) (files : List Listed) (head table : List ℕ) → IsReady u s p → All (IsPlaced s.room) (whole_files s) → Asks s text files → Closed v p s.spare → Within (slot_place s.spare) 1 u v → w.told → Only w.bytes w → Within (slot_place s.spare + FIELDS) (SLOT_LEN - FIELDS) v w → LeavesOnly (StandsFor p) v w
+    → w.bytes ≡ put (put (put v.bytes (slot_place s.spare + FIELDS) head) (slot_place s.spare + TABLE) table) (slot_place s.spare + TEXT) text → head ≡ head_fields (s.number + 1) (length text) (length files) → table ≡ table_bytes (map (chosen (whole_files s)) files) → length table ≤ TABLE_LEN → Filled w p s.spare text (stored_files s u.bytes files)
 filled_by u v w s p text files head table ready placed asks closed closing told only within moments written head_is table_is table_fits =
     let F : List StoredFile = stored_files s u.bytes files in
     let high = place_high s.spare in
     let held : AreFiles F (range u.bytes DATA p.room) = next_held u s p text files ready placed asks in
     let same : range w.bytes DATA p.room ≡ range u.bytes DATA p.room =
-    bytes_kept (slot_place s.spare + 4) 1069052 DATA p.room v w closed.told (inr (omega (arith, high))) within ∙ bytes_kept (slot_place s.spare) 1 DATA p.room u v ready.settled.told (inr (omega (arith, high))) closing in
+    bytes_kept (slot_place s.spare + FIELDS) (SLOT_LEN - FIELDS) DATA p.room v w closed.told (inr (omega (arith, high))) within ∙ bytes_kept (slot_place s.spare) 1 DATA p.room u v ready.settled.told (inr (omega (arith, high))) closing in
     let chosen_as : map (chosen (whole_files s)) files ≡ map placed_of F = chosen_stored (whole_files s) u.bytes files asks.held in
     let table_as : table ≡ table_bytes (map placed_of F) = table_is ∙ ap table_bytes chosen_as in
     let count : length files ≡ length F = sym (length-map files (stored_file (whole_files s) u.bytes)) in

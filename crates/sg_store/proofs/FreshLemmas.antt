@@ -4,7 +4,8 @@ use Rattle.std.proofs.lemmas.Bool.{cases_lt}
 use Rattle.std.proofs.lemmas.List.{length-replicate, get_or-replicate}
 use Rattle.sg_disk.specs.View.{View, range, put, Torn, Written, Passed}
 use Rattle.sg_disk.specs.Runs.{Ran}
-use Rattle.sg_disk.specs.declared.places.TheConstants.{HEADER_LEN, JOURNAL, JOURNAL_LEN, RECORDS, RECORD_LEN, SLOT_ZERO, SLOT_ONE, SLOT_LEN, DATA}
+use Rattle.sg_base.specs.declared.limits.TheConstants.{JOURNAL_RECORDS}
+use Rattle.sg_disk.specs.declared.places.TheConstants.{DATA, HEADER_LEN, JOURNAL, JOURNAL_LEN, RECORD_LEN, SLOT_LEN, SLOT_ONE, SLOT_ZERO}
 use Rattle.sg_disk.specs.Contents.{IsRoom, fresh}
 use Rattle.sg_disk.specs.StandsFor.{le32, le64, IsHeader, StandsFor}
 use Rattle.sg_disk.proofs.Fresh.{lawful_fresh, fresh_stands}
@@ -143,7 +144,7 @@ fresh_written display epoch room c display_ok epoch_ok room_ok size zero one jou
     (zero_closed SLOT_ONE SLOT_LEN 0 whole (omega arith) (kept SLOT_ONE 1 (omega arith) one))
     (λ k lt. zero_closed JOURNAL JOURNAL_LEN (RECORD_LEN * k) whole (omega (arith, lt)) (part k lt whole (kept JOURNAL JOURNAL_LEN (omega arith) journal)))
   where
-    part : (k : ℕ) → k < RECORDS → (d : List ℕ) → AreZeros JOURNAL JOURNAL_LEN d → AreZeros (JOURNAL + RECORD_LEN * k) 1 d
+    part : (k : ℕ) → k < JOURNAL_RECORDS → (d : List ℕ) → AreZeros JOURNAL JOURNAL_LEN d → AreZeros (JOURNAL + RECORD_LEN * k) 1 d
     part k lt d zeros p low high = zeros p (omega (arith, low)) (omega (arith, high, lt))
 
 -- a clause on an answer that is an `Err`, where its fact holds in any case

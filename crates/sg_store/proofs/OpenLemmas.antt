@@ -7,7 +7,8 @@ use Rattle.sg_disk.proofs.Standing.{settled_by, lawful_inside}
 use Rattle.sg_disk.proofs.Writes.{one_stable}
 use Rattle.sg_disk.specs.Contents.{Segment, StoredFile, Contents, IsClear, IsInside, IsExtent, IsSnapshot, IsLawful, segments_of}
 use Rattle.sg_disk.specs.StandsFor.{place_of, IsCurrent, AreSlots, IsHeld, AreFiles, bytes_at, StandsFor}
-use Rattle.sg_disk.specs.declared.places.TheConstants.{JOURNAL, SLOT_ZERO, SLOT_ONE, SLOT_LEN, DATA, MAX_ROOM}
+use Rattle.sg_base.specs.declared.limits.TheConstants.{MAX_ROOM}
+use Rattle.sg_disk.specs.declared.places.TheConstants.{DATA, JOURNAL, SLOT_LEN, SLOT_ONE, SLOT_ZERO}
 use Rattle.sg_disk.proofs.Ranges.{range-range}
 use Rattle.sg_disk.proofs.Extents.{extent_of, segments-extent}
 use Rattle.sg_placing.specs.Placing.{placed_of, AreApart}

@@ -6,7 +6,8 @@ use Rattle.sg_disk.specs.View.{View, range}
 use Rattle.sg_disk.specs.Runs.{Quiet}
 use Rattle.sg_disk.specs.Contents.{StoredFile, Contents, IsInside, IsExtent, IsSnapshot}
 use Rattle.sg_disk.specs.StandsFor.{place_of, IsCurrent, IsHeld, StandsFor}
-use Rattle.sg_disk.specs.declared.places.TheConstants.{SLOT_LEN, TEXT, DATA, JOURNAL, MAX_TEXT}
+use Rattle.sg_base.specs.declared.limits.TheConstants.{MANIFEST_TEXT}
+use Rattle.sg_disk.specs.declared.places.TheConstants.{DATA, JOURNAL, SLOT_LEN, TEXT}
 use Rattle.sg_disk.proofs.Ranges.{range-range}
 use Rattle.sg_disk.proofs.Standing.{settled_quiet, lawful_inside}
 use Rattle.sg_disk.proofs.Writes.{one_quiet}
@@ -22,11 +23,11 @@ use Rattle.sg_store.proofs.WholeLemmas.{file_stands}
 current_of : (text : Option (List ℕ)) (t : List ℕ) (P : List ℕ → Type 0) → text ≡ Some t → MatchOption text (Unit {0}) P → P t
 current_of text t P is holds = subst (λ (o : Option (List ℕ)). MatchOption o (Unit {0}) P) is holds
 
-long_in : (room number : ℕ) (text : Option (List ℕ)) (files : List StoredFile) (t : List ℕ) → text ≡ Some t → MatchOption text ((number ≡ 0) × (files ≡ [])) (λ t. IsSnapshot room number t files) → length t ≤ MAX_TEXT
+long_in : (room number : ℕ) (text : Option (List ℕ)) (files : List StoredFile) (t : List ℕ) → text ≡ Some t → MatchOption text ((number ≡ 0) × (files ≡ [])) (λ t. IsSnapshot room number t files) → length t ≤ MANIFEST_TEXT
 long_in room number text files t is holds = let snapshot = subst (λ (o : Option (List ℕ)). MatchOption o ((number ≡ 0) × (files ≡ [])) (λ t. IsSnapshot room number t files)) is holds in snapshot.long.1
 
 -- the manifest stands at its place; a text within its limit
-pub text_at : (s : Store) (p : Contents) (c text : List ℕ) (place : ℕ) → place ≡ slot_place (opposite s.spare) + TEXT → length text ≤ MAX_TEXT → Knows s p c → p.text ≡ Some text → range c place (length text) ≡ text
+pub text_at : (s : Store) (p : Contents) (c text : List ℕ) (place : ℕ) → place ≡ slot_place (opposite s.spare) + TEXT → length text ≤ MANIFEST_TEXT → Knows s p c → p.text ≡ Some text → range c place (length text) ≡ text
 text_at s p c text place at long knows is =
     let current : IsCurrent p.room p.number text p.files (slot_of (opposite s.spare) c) (slot_of s.spare c) = current_of p.text text (λ t. IsCurrent p.room p.number t p.files (slot_of (opposite s.spare) c) (slot_of s.spare c)) is knows.slot in
     ap (λ (k : ℕ). range c k (length text)) at ∙ sym (range-range c (slot_place (opposite s.spare)) SLOT_LEN TEXT (length text) (omega (arith, long))) ∙ current.fields.text_is

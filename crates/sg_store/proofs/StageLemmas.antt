@@ -13,7 +13,7 @@ use Rattle.sg_disk.specs.View.{View, range, put, Torn, Written, Passed, Elapses,
 use Rattle.sg_disk.specs.Runs.{LeavesOnly, Within}
 use Rattle.sg_disk.specs.Contents.{Segment, StoredFile, Contents, IsClear, AreClear, IsLawful}
 use Rattle.sg_disk.specs.StandsFor.{IsOpen, IsCurrent, StandsFor, Settled}
-use Rattle.sg_disk.specs.declared.places.TheConstants.{SLOT_ZERO, SLOT_ONE, SLOT_LEN, JOURNAL, DATA}
+use Rattle.sg_disk.specs.declared.places.TheConstants.{DATA, JOURNAL, SLOT_LEN, SLOT_ONE, SLOT_ZERO}
 use Rattle.sg_disk.proofs.Ranges.{range_kept, range_put, put_is_torn, length-range}
 use Rattle.sg_disk.proofs.Moments.{one_call}
 use Rattle.sg_disk.proofs.Writes.{one_kept, bytes_kept, within_wider}

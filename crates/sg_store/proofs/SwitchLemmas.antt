@@ -1,11 +1,11 @@
 -- A switch, step by step: the closing of the spare slot, its filling, and the opening of its gate.
-use Rattle.std.proofs.Common.{◌≡◌, ◌⊎◌, inl, inr, ℕ, ◌+◌, ◌*◌, ◌≤◌, Bool, true, false, List, [], ◌∷◌, get_or, Option, None, Some, MatchOption, sym, ◌∙◌, ap, subst, arith, zero-add, if◌then◌else◌}
+use Rattle.std.proofs.Common.{◌≡◌, ◌⊎◌, inl, inr, ℕ, ◌+◌, ◌*◌, ◌≤◌, Bool, true, false, List, [], ◌∷◌, get_or, Option, None, Some, MatchOption, sym, ◌∙◌, ◌-◌, ap, subst, arith, zero-add, if◌then◌else◌}
 use Rattle.std.proofs.lemmas.Bool.{cases_Bool, true≢false}
 use Rattle.sg_disk.specs.View.{View, range, put, Torn, Only}
 use Rattle.sg_disk.specs.Runs.{After, LeavesOnly, Within, HasOne}
 use Rattle.sg_disk.specs.Contents.{StoredFile, Contents, IsSnapshot, IsLawful, switched}
 use Rattle.sg_disk.specs.StandsFor.{HasFields, IsOpen, IsCurrent, AreSlots, AreFiles, StandsFor, Either}
-use Rattle.sg_disk.specs.declared.places.TheConstants.{SLOT_ZERO, SLOT_ONE, SLOT_LEN, JOURNAL, DATA}
+use Rattle.sg_disk.specs.declared.places.TheConstants.{DATA, FIELDS, JOURNAL, SLOT_LEN, SLOT_ONE, SLOT_ZERO}
 use Rattle.sg_disk.proofs.Ranges.{range_kept, range-range, torn_in, torn_wider, byte_kept, byte_put}
 use Rattle.sg_disk.proofs.Moments.{weaker, at_end}
 use Rattle.sg_disk.proofs.Standing.{open_cases}
@@ -146,18 +146,18 @@ closed_after v w s p ready told only bytes within moments =
         absurd (true≢false (sym (ready.knows.gate.1 (subst (λ (c : List ℕ). IsOpen (slot_of s.spare c)) is now)) ∙ shut))
 
 -- the filling of the closed slot: each image stands for the contents
-pub filling : (v w : View) (p : Contents) (slot : Slot) → Closed v p slot → Within (slot_place slot + 4) 1069052 v w → LeavesOnly (StandsFor p) v w
-filling v w p slot closed within = weaker v w (After (Torn (slot_place slot + 4) 1069052) v) (StandsFor p) (λ c was. filled_one c was.0 was.1 was.2) within.moments
+pub filling : (v w : View) (p : Contents) (slot : Slot) → Closed v p slot → Within (slot_place slot + FIELDS) (SLOT_LEN - FIELDS) v w → LeavesOnly (StandsFor p) v w
+filling v w p slot closed within = weaker v w (After (Torn (slot_place slot + FIELDS) (SLOT_LEN - FIELDS)) v) (StandsFor p) (λ c was. filled_one c was.0 was.1 was.2) within.moments
   where
-    filled_one : (c d : List ℕ) → v.images d → Torn (slot_place slot + 4) 1069052 d c → StandsFor p c
+    filled_one : (c d : List ℕ) → v.images d → Torn (slot_place slot + FIELDS) (SLOT_LEN - FIELDS) d c → StandsFor p c
     filled_one c d now torn =
         let is : d ≡ v.bytes = closed.only d now in
-        let here : Torn (slot_place slot + 4) 1069052 v.bytes c = subst (λ (x : List ℕ). Torn (slot_place slot + 4) 1069052 x c) is torn in
-        let gate : get_or c (slot_place slot) 0 ≡ get_or v.bytes (slot_place slot) 0 = byte_kept (slot_place slot + 4) 1069052 (slot_place slot) v.bytes c here (inl (omega arith)) in
+        let here : Torn (slot_place slot + FIELDS) (SLOT_LEN - FIELDS) v.bytes c = subst (λ (x : List ℕ). Torn (slot_place slot + FIELDS) (SLOT_LEN - FIELDS) x c) is torn in
+        let gate : get_or c (slot_place slot) 0 ≡ get_or v.bytes (slot_place slot) 0 = byte_kept (slot_place slot + FIELDS) (SLOT_LEN - FIELDS) (slot_place slot) v.bytes c here (inl (omega arith)) in
         let shut : IsOpen (slot_of slot c) → ⊥ = λ opened. closed.shut (gate_of slot v.bytes ∙ sym gate ∙ sym (gate_of slot c) ∙ opened) in
         let stand = shut_stands p.room p.number p.text p.files (slot_of (opposite slot) v.bytes) (slot_of slot v.bytes) (slot_of slot c) shut closed.stand in
-        let all = subst (λ (a : List ℕ). Stand p.room p.number p.text p.files a (slot_of slot c)) (sym (opposite_kept slot (slot_place slot + 4) 1069052 v.bytes c (omega arith) (omega arith) here)) stand in
-        rebuilt p slot v.bytes c (slot_place slot + 4) 1069052 (omega arith) (omega arith) here closed.stands all
+        let all = subst (λ (a : List ℕ). Stand p.room p.number p.text p.files a (slot_of slot c)) (sym (opposite_kept slot (slot_place slot + FIELDS) (SLOT_LEN - FIELDS) v.bytes c (omega arith) (omega arith) here)) stand in
+        rebuilt p slot v.bytes c (slot_place slot + FIELDS) (SLOT_LEN - FIELDS) (omega arith) (omega arith) here closed.stands all
 
 -- a disk with one image, whose closed spare slot has the next snapshot
 pub record Filled (v : View) (p : Contents) (slot : Slot) (text : List ℕ) (files : List StoredFile) : Type 0 where
@@ -166,10 +166,10 @@ pub record Filled (v : View) (p : Contents) (slot : Slot) (text : List ℕ) (fil
   pub held : AreFiles files (range v.bytes DATA p.room)
   pub lawful : IsLawful (switched p text files)
 
-pub closed_still : (v w : View) (p : Contents) (slot : Slot) → Closed v p slot → w.told → Only w.bytes w → Within (slot_place slot + 4) 1069052 v w → LeavesOnly (StandsFor p) v w → Closed w p slot
+pub closed_still : (v w : View) (p : Contents) (slot : Slot) → Closed v p slot → w.told → Only w.bytes w → Within (slot_place slot + FIELDS) (SLOT_LEN - FIELDS) v w → LeavesOnly (StandsFor p) v w → Closed w p slot
 closed_still v w p slot closed told only within moments =
     let torn = within.bytes closed.told in
-    let gate : get_or w.bytes (slot_place slot) 0 ≡ get_or v.bytes (slot_place slot) 0 = byte_kept (slot_place slot + 4) 1069052 (slot_place slot) v.bytes w.bytes torn (inl (omega arith)) in
+    let gate : get_or w.bytes (slot_place slot) 0 ≡ get_or v.bytes (slot_place slot) 0 = byte_kept (slot_place slot + FIELDS) (SLOT_LEN - FIELDS) (slot_place slot) v.bytes w.bytes torn (inl (omega arith)) in
     let shut : IsOpen (slot_of slot w.bytes) → ⊥ = λ opened. closed.shut (gate_of slot v.bytes ∙ sym gate ∙ sym (gate_of slot w.bytes) ∙ opened) in
     let stand = shut_stands p.room p.number p.text p.files (slot_of (opposite slot) v.bytes) (slot_of slot v.bytes) (slot_of slot w.bytes) shut closed.stand in
     record {
@@ -177,7 +177,7 @@ closed_still v w p slot closed told only within moments =
       only = only;
       stands = at_end v w (StandsFor p) moments w.bytes (w.reads told);
       shut = shut;
-      stand = subst (λ (a : List ℕ). Stand p.room p.number p.text p.files a (slot_of slot w.bytes)) (sym (opposite_kept slot (slot_place slot + 4) 1069052 v.bytes w.bytes (omega arith) (omega arith) torn)) stand;
+      stand = subst (λ (a : List ℕ). Stand p.room p.number p.text p.files a (slot_of slot w.bytes)) (sym (opposite_kept slot (slot_place slot + FIELDS) (SLOT_LEN - FIELDS) v.bytes w.bytes (omega arith) (omega arith) torn)) stand;
     }
 
 -- the opening of the filled slot: each image stands for the contents before or for those after

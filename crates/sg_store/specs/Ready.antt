@@ -5,7 +5,7 @@ use Rattle.md5.specs.Md5.{md5, Holds}
 use Rattle.sg_base.specs.declared.file.Listed.{Listed}
 use Rattle.sg_disk.specs.View.{View, range}
 use Rattle.sg_disk.specs.Runs.{HasOne}
-use Rattle.sg_disk.specs.Contents.{Segment, StoredFile, Contents}
+use Rattle.sg_disk.specs.Contents.{Segment, StoredFile, Contents, switched}
 use Rattle.sg_disk.specs.StandsFor.{IsOpen, IsCurrent, Settled}
 use Rattle.sg_disk.specs.declared.places.TheConstants.{JOURNAL}
 use Rattle.sg_placing.specs.Placing.{segments_of_placed, placed_of, AreApart, same_file}
@@ -49,7 +49,9 @@ text_length (Some text) = length text
 
 -- the snapshot stands in the slot that isn't spare
 abbrev pub IsInSlot : Store → Contents → List ℕ → Type 0
-IsInSlot s p c = MatchOption p.text (Unit {0}) (λ text. IsCurrent p.room p.number text p.files (slot_of (opposite s.spare) c) (slot_of s.spare c))
+IsInSlot s p c = MatchOption p.text (Unit {0})
+    (λ text. IsCurrent p.room p.number text p.files (slot_of (opposite s.spare) c)
+    (slot_of s.spare c))
 
 -- what the store keeps in memory is what the disk stands for
 pub record Knows (s : Store) (p : Contents) (c : List ℕ) : Type 0 where
@@ -71,7 +73,8 @@ pub record HasStaged (s : Store) (c : List ℕ) : Type 0 where
 
 -- a placed file with the bytes that stand there
 abbrev pub file_at : List ℕ → Placed → StoredFile
-file_at c p = let segments = segments_of_placed p in record { listed = p.file; segments = segments; bytes = bytes_in c segments }
+file_at c p = let segments = segments_of_placed p
+    in record { listed = p.file; segments = segments; bytes = bytes_in c segments }
 
 -- the files that are staged and sealed, in the order in which they were sealed
 abbrev pub sealed_files : Store → List ℕ → List StoredFile
@@ -110,6 +113,10 @@ stored_file files c listed =
 -- the files of a new snapshot
 abbrev pub stored_files : Store → List ℕ → List Listed → List StoredFile
 stored_files s c listed = map (stored_file (whole_files s) c) listed
+
+-- the contents after a switch
+abbrev pub after_switch : Store → List ℕ → Contents → List ℕ → List Listed → Contents
+after_switch s c p text listed = switched p text (stored_files s c listed)
 
 -- the snapshot, and what is known of the disk's slots, stay
 pub record KeepsSnapshot (old new : Store) : Type 0 where

@@ -3,7 +3,7 @@ ghost use Rattle.std.specs.Prelude.{◌≡◌, ◌≤◌, ◌++◌, length, All,
 ghost use Rattle.sg_store.specs.Ready.{placed_as, chosen};
 
 use sg_base::Listed;
-use sg_disk::MAX_FILES;
+use sg_base::limits::MANIFEST_FILES;
 use sg_placing::{Placed, Shelf, find_file};
 
 /// The file of the snapshot, or the staged one, that is the listed file. It goes over both lists once.
@@ -19,7 +19,7 @@ pub fn find_whole(current: &[Placed], staged: &[Placed], file: &Listed) -> Optio
 /// Puts the files of a snapshot, each of which is whole, on a shelf. For each it goes over both lists once, at most 512 times
 /// 1,024 comparisons.
 pub fn choose_files(current: &[Placed], staged: &[Placed], files: &[Listed], next: &mut Shelf)
-    requires few { length files.now ≤ MAX_FILES }
+    requires few { length files.now ≤ MANIFEST_FILES }
     requires held { All (λ f. is_some (placed_as (current.now ++ staged.now) f) ≡ true) files.now }
     ensures { next.new ≡ map (chosen (current.now ++ staged.now)) files.now }
 {

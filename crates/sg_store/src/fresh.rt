@@ -6,8 +6,10 @@ ghost use Rattle.sg_disk.specs.Contents.{IsRoom, fresh};
 ghost use Rattle.sg_disk.specs.StandsFor.{Settled};
 ghost use Rattle.sg_slots.specs.Bytes.{header_fields, AreZeros};
 
+use sg_base::limits::MAX_EPOCH;
 use sg_disk::{
-    DATA, Disk, DiskFailed, FORMAT_CALLS, JOURNAL, JOURNAL_LEN, SLOT_ONE, SLOT_ZERO, write_synced,
+    DATA, Disk, DiskFailed, FIELDS, FORMAT_CALLS, JOURNAL, JOURNAL_LEN, SLOT_ONE, SLOT_ZERO,
+    write_synced,
 };
 use sg_slots::{Format, header_fields_of};
 
@@ -22,10 +24,12 @@ const PIECES: u64 = 256;
 /// The old header's gate is closed and synced first, so that no other byte changes behind an open one.
 pub fn format<D: Disk>(disk: &mut D, format: &Format) -> Result<(), DiskFailed>
     requires display { 1 ≤ format.now.display }
-    requires epoch { (1 ≤ format.now.epoch) × (format.now.epoch ≤ 65535) }
+    requires epoch { (1 ≤ format.now.epoch) × (format.now.epoch ≤ MAX_EPOCH) }
     requires room { IsRoom format.now.room }
-    ensures fresh { OnOk result ((D.view disk.old).told → Settled (D.view disk.new) (fresh format.now.display format.now.epoch format.now.room)) }
-    ensures stable { OnOk result ((D.view disk.old).told → Only (D.view disk.new).bytes (D.view disk.new)) }
+    ensures fresh { OnOk result ((D.view disk.old).told
+        → Settled (D.view disk.new) (fresh format.now.display format.now.epoch format.now.room)) }
+    ensures stable { OnOk result ((D.view disk.old).told
+        → Only (D.view disk.new).bytes (D.view disk.new)) }
     ensures size { OnOk result ((D.view disk.new).size ≡ DATA + format.now.room) }
     ensures ran { OnOk result (Ran FORMAT_CALLS (D.view disk.old) (D.view disk.new)) }
     ensures broke { OnErr result (Broke (D.view disk.old) (D.view disk.new)) }
@@ -53,9 +57,12 @@ fn close_header<D: Disk>(disk: &mut D) -> Result<(), DiskFailed>
 // Closes the header, both slots and every record.
 fn clear<D: Disk>(disk: &mut D) -> Result<(), DiskFailed>
     requires disk { DATA ≤ (D.view disk.old).size }
-    ensures zero { OnOk result ((D.view disk.old).told → AreZeros SLOT_ZERO 1 (D.view disk.new).bytes) }
-    ensures one { OnOk result ((D.view disk.old).told → AreZeros SLOT_ONE 1 (D.view disk.new).bytes) }
-    ensures journal { OnOk result ((D.view disk.old).told → AreZeros JOURNAL JOURNAL_LEN (D.view disk.new).bytes) }
+    ensures zero { OnOk result ((D.view disk.old).told
+        → AreZeros SLOT_ZERO 1 (D.view disk.new).bytes) }
+    ensures one { OnOk result ((D.view disk.old).told
+        → AreZeros SLOT_ONE 1 (D.view disk.new).bytes) }
+    ensures journal { OnOk result ((D.view disk.old).told
+        → AreZeros JOURNAL JOURNAL_LEN (D.view disk.new).bytes) }
     ensures size { (D.view disk.new).size ≡ (D.view disk.old).size }
     ensures ran { OnOk result (Ran 0 (D.view disk.old) (D.view disk.new)) }
     ensures broke { OnErr result (Broke (D.view disk.old) (D.view disk.new)) }
@@ -70,15 +77,17 @@ fn clear<D: Disk>(disk: &mut D) -> Result<(), DiskFailed>
 // Writes zeros over the journal, a piece at a time.
 fn clear_journal<D: Disk>(disk: &mut D, zeros: &[u8]) -> Result<(), DiskFailed>
     requires disk { DATA ≤ (D.view disk.old).size }
-    requires zeros { zeros.now ≡ replicate 16384 0 }
-    ensures torn { OnOk result ((D.view disk.old).told → Torn JOURNAL JOURNAL_LEN (D.view disk.old).bytes (D.view disk.new).bytes) }
-    ensures journal { OnOk result ((D.view disk.old).told → AreZeros JOURNAL JOURNAL_LEN (D.view disk.new).bytes) }
+    requires zeros { zeros.now ≡ replicate PIECE 0 }
+    ensures torn { OnOk result ((D.view disk.old).told
+        → Torn JOURNAL JOURNAL_LEN (D.view disk.old).bytes (D.view disk.new).bytes) }
+    ensures journal { OnOk result ((D.view disk.old).told
+        → AreZeros JOURNAL JOURNAL_LEN (D.view disk.new).bytes) }
     ensures size { (D.view disk.new).size ≡ (D.view disk.old).size }
     ensures ran { OnOk result (Ran 0 (D.view disk.old) (D.view disk.new)) }
     ensures broke { OnErr result (Broke (D.view disk.old) (D.view disk.new)) }
 {
     for piece in 0..PIECES {
-        disk.write_at(JOURNAL + 16_384 * piece, zeros)?;
+        disk.write_at(JOURNAL + PIECE as u64 * piece, zeros)?;
     }
     Ok(())
 }
@@ -86,13 +95,17 @@ fn clear_journal<D: Disk>(disk: &mut D, zeros: &[u8]) -> Result<(), DiskFailed>
 // Writes the header behind its closed gate, syncs, and opens the gate.
 fn fill_header<D: Disk>(disk: &mut D, format: &Format) -> Result<(), DiskFailed>
     requires disk { DATA ≤ (D.view disk.old).size }
-    ensures written { OnOk result ((D.view disk.old).told → (D.view disk.new).bytes ≡ put (put (D.view disk.old).bytes 4 (header_fields format.now.display format.now.epoch format.now.room)) 0 (1 ∷ [])) }
-    ensures stable { OnOk result ((D.view disk.old).told → Only (D.view disk.new).bytes (D.view disk.new)) }
+    ensures written { OnOk result ((D.view disk.old).told
+        → (D.view disk.new).bytes
+        ≡ put (put (D.view disk.old).bytes FIELDS
+        (header_fields format.now.display format.now.epoch format.now.room)) 0 (1 ∷ [])) }
+    ensures stable { OnOk result ((D.view disk.old).told
+        → Only (D.view disk.new).bytes (D.view disk.new)) }
     ensures size { (D.view disk.new).size ≡ (D.view disk.old).size }
     ensures ran { OnOk result (Ran 4 (D.view disk.old) (D.view disk.new)) }
     ensures broke { OnErr result (Broke (D.view disk.old) (D.view disk.new)) }
 {
-    write_synced(disk, 4, &header_fields_of(format))?;
+    write_synced(disk, FIELDS, &header_fields_of(format))?;
     write_synced(disk, 0, &[1])?;
     Ok(())
 }

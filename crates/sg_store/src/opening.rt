@@ -13,7 +13,8 @@ ghost use Rattle.sg_slots.specs.Refusals.{EndedBy};
 ghost use Rattle.sg_store.specs.Ready.{IsReady};
 
 use crate::store::Store;
-use sg_disk::{DATA, Disk, MAX_ROOM, MAX_TEXT, OPEN_CALLS};
+use sg_base::limits::{MANIFEST_TEXT, MAX_ROOM};
+use sg_disk::{DATA, Disk, OPEN_CALLS, TABLE_LEN};
 use sg_placing::Shelf;
 use sg_slots::{Format, OpenFault, Slot, SlotPair, read_header, read_slots};
 use std::alloc::{AllocError, Global};
@@ -30,13 +31,13 @@ struct Rooms {
 impl Rooms {
     fn reserve(alloc: Global) -> Result<Rooms, AllocError>
         ensures staged { IfOk result (λ r. r.staged ≡ []) }
-        ensures table { IfOk result (λ r. 16384 ≤ vec_capacity r.table) }
+        ensures table { IfOk result (λ r. TABLE_LEN ≤ vec_capacity r.table) }
     {
         Ok(Rooms {
             zero: Shelf::reserve(alloc)?,
             one: Shelf::reserve(alloc)?,
             staged: Shelf::reserve(alloc)?,
-            table: Vec::with_capacity(alloc, 16_384)?,
+            table: Vec::with_capacity(alloc, TABLE_LEN as usize)?,
         })
     }
 }
@@ -44,12 +45,12 @@ impl Rooms {
 // Puts a store together from what was read.
 fn assemble(header: Format, slots: SlotPair, rooms: Rooms) -> Store
     requires room { header.room ≤ MAX_ROOM }
-    requires zero_text { ForSome slots.zero (λ h. h.text ≤ MAX_TEXT) }
-    requires one_text { ForSome slots.one (λ h. h.text ≤ MAX_TEXT) }
+    requires zero_text { ForSome slots.zero (λ h. h.text ≤ MANIFEST_TEXT) }
+    requires one_text { ForSome slots.one (λ h. h.text ≤ MANIFEST_TEXT) }
     requires zero_files { All (IsPlaced header.room) rooms.zero }
     requires one_files { All (IsPlaced header.room) rooms.one }
     requires staged { rooms.staged ≡ [] }
-    requires table { 16384 ≤ vec_capacity rooms.table }
+    requires table { TABLE_LEN ≤ vec_capacity rooms.table }
     ensures display { result.display ≡ header.display }
     ensures epoch { result.epoch ≡ header.epoch }
     ensures room { result.room ≡ header.room }
@@ -98,29 +99,52 @@ impl Store {
     /// It takes all the memory of the store. Where a disk has several faults, the answer is the first one in this order: the
     /// header; slot 0 and then slot 1, each by its fields and its entries; equal numbers; overlaps.
     pub fn open<D: Disk>(alloc: Global, disk: &mut D) -> Result<Store, OpenFault>
-        // The store is the one that a read gives, and each crash now leaves it.
-        ensures ready { IfOk result (λ s. (p : Contents) → (D.view disk.old).told → StandsFor p (D.view disk.old).bytes → IsReady (D.view disk.new) s p) }
-        ensures settled { IfOk result (λ s. (p q : Contents) → Between (D.view disk.old) (Two p q) → (r : Contents) × Two p q r × StandsFor r (D.view disk.old).bytes × IsReady (D.view disk.new) s r) }
+
+        // A crash at any moment of it leaves what a crash before it could leave.
+        ensures any_moment { LeavesOnly (D.view disk.old).images (D.view disk.old)
+            (D.view disk.new) }
+        ensures between { (p q : Contents) → Between (D.view disk.old) (Two p q)
+            → LeavesOnly (StandsForOne (Two p q)) (D.view disk.old) (D.view disk.new) }
+
+        // The store is the one that a read gives, and each crash now leaves it. Nothing is staged.
+        ensures ready { let v = D.view disk.old in IfOk result (λ s. (p : Contents) → v.told
+            → StandsFor p v.bytes → IsReady (D.view disk.new) s p) }
+        ensures settled { let v = D.view disk.old in IfOk result (λ s. (p q : Contents)
+            → Between v (Two p q)
+            → (r : Contents) × Two p q r × StandsFor r v.bytes × IsReady (D.view disk.new) s r) }
         ensures idle { IfOk result (λ s. s.half ≡ None) }
         ensures sealed { IfOk result (λ s. s.staged ≡ []) }
-        ensures stable { OnOk result ((D.view disk.old).told → Only (D.view disk.new).bytes (D.view disk.new)) }
-        ensures bytes { OnOk result ((D.view disk.old).told → (D.view disk.new).bytes ≡ (D.view disk.old).bytes) }
-        ensures size { IfOk result (λ s. (D.view disk.new).size ≡ DATA + s.room) }
-        ensures told_size { (D.view disk.old).told → (D.view disk.new).size ≡ (D.view disk.old).size }
-        ensures ran { OnOk result (Ran OPEN_CALLS (D.view disk.old) (D.view disk.new)) }
-        ensures any_moment { LeavesOnly (D.view disk.old).images (D.view disk.old) (D.view disk.new) }
-        ensures between { (p q : Contents) → Between (D.view disk.old) (Two p q) → LeavesOnly (StandsForOne (Two p q)) (D.view disk.old) (D.view disk.new) }
 
-        // Each refusal comes exactly by its cause.
-        ensures unformatted { IsErrOf result OpenFault.Unformatted → ((D.view disk.new).size < DATA) ⊎ ((D.view disk.old).told → slice_index (D.view disk.old).bytes 0 ≢ 1) }
-        ensures formatted { OnOk result ((D.view disk.old).told → slice_index (D.view disk.old).bytes 0 ≡ 1) }
-        ensures damaged { (place found : ℕ) → IsErrOf result (OpenFault.Damaged place found) → (D.view disk.old).told → damage_of (D.view disk.new).size (D.view disk.old).bytes ≡ Some (record { place = place; found = found }) }
-        ensures sound { OnOk result ((D.view disk.old).told → damage_of (D.view disk.new).size (D.view disk.old).bytes ≡ None) }
+        // What it leaves of the disk.
+        ensures stable { OnOk result ((D.view disk.old).told
+            → Only (D.view disk.new).bytes (D.view disk.new)) }
+        ensures bytes { OnOk result ((D.view disk.old).told
+            → (D.view disk.new).bytes ≡ (D.view disk.old).bytes) }
+        ensures size { IfOk result (λ s. (D.view disk.new).size ≡ DATA + s.room) }
+        ensures told_size { (D.view disk.old).told
+            → (D.view disk.new).size ≡ (D.view disk.old).size }
+        ensures ran { OnOk result (Ran OPEN_CALLS (D.view disk.old) (D.view disk.new)) }
         ensures ended { IfErr result (λ fault. EndedBy fault (D.view disk.old) (D.view disk.new)) }
 
+        // Each refusal comes exactly by its cause.
+        ensures unformatted { IsErrOf result OpenFault.Unformatted
+            → ((D.view disk.new).size < DATA)
+            ⊎ ((D.view disk.old).told → slice_index (D.view disk.old).bytes 0 ≢ 1) }
+        ensures formatted { OnOk result ((D.view disk.old).told
+            → slice_index (D.view disk.old).bytes 0 ≡ 1) }
+        ensures damaged { let v = D.view disk.old in (place found : ℕ)
+            → IsErrOf result (OpenFault.Damaged place found) → v.told
+            → damage_of (D.view disk.new).size v.bytes
+            ≡ Some (record { place = place; found = found }) }
+        ensures sound { OnOk result ((D.view disk.old).told
+            → damage_of (D.view disk.new).size (D.view disk.old).bytes ≡ None) }
+
         // A disk that stands for contents is opened, unless the disk fails or memory runs out.
-        ensures recognized { (p : Contents) → (D.view disk.old).told → StandsFor p (D.view disk.old).bytes → IsErrOf result OpenFault.Unformatted → ⊥ }
-        ensures undamaged { (p : Contents) → (D.view disk.old).told → StandsFor p (D.view disk.old).bytes → (place found : ℕ) → IsErrOf result (OpenFault.Damaged place found) → ⊥ }
+        ensures recognized { (p : Contents) → (D.view disk.old).told
+            → StandsFor p (D.view disk.old).bytes → IsErrOf result OpenFault.Unformatted → ⊥ }
+        ensures undamaged { (p : Contents) → (D.view disk.old).told
+            → StandsFor p (D.view disk.old).bytes → (place found : ℕ)
+            → IsErrOf result (OpenFault.Damaged place found) → ⊥ }
     {
         let mut rooms = Rooms::reserve(alloc)?;
         let header = read_header(disk)?;

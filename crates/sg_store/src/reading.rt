@@ -1,5 +1,5 @@
 // What the snapshot reads back as. These calls change nothing, on the disk or in the store.
-ghost use Rattle.std.specs.Prelude.{◌≡◌, ℕ, ◌+◌, ◌≤◌, ◌==◌, List, length, find, Some, OnOk, OnErr, IsSomeAnd, Contains};
+ghost use Rattle.std.specs.Prelude.{◌≡◌, ℕ, ◌+◌, ◌≤◌, ◌==◌, List, length, find, Some, OnOk, OnErr, IsSomeAnd, Contains, true, false};
 ghost use Rattle.sg_disk.specs.View.{range};
 ghost use Rattle.sg_disk.specs.Runs.{LeavesOnly, Broke, Quiet};
 ghost use Rattle.sg_disk.specs.Contents.{StoredFile, Contents};
@@ -7,6 +7,7 @@ ghost use Rattle.sg_store.specs.Ready.{Knows, IsReady};
 
 use crate::store::Store;
 use sg_base::MediaId;
+use sg_base::limits::MANIFEST_TEXT;
 use sg_disk::{DATA, Disk, DiskFailed, TEXT};
 use sg_placing::find_media;
 
@@ -14,8 +15,9 @@ impl Store {
     /// Where the manifest of the snapshot begins on the disk.
     pub fn manifest_place(&self) -> u64
         requires { 1 ≤ self.now.number }
-        ensures text { (p : Contents) (c text : List ℕ) → Knows self.now p c → p.text ≡ Some text → range c result (length text) ≡ text }
-        ensures inside { result + 1048576 ≤ DATA }
+        ensures text { (p : Contents) (c text : List ℕ) → Knows self.now p c → p.text ≡ Some text
+            → range c result (length text) ≡ text }
+        ensures inside { result + MANIFEST_TEXT ≤ DATA }
     {
         self.spare.opposite().place() + TEXT
     }
@@ -25,15 +27,39 @@ impl Store {
         requires snapshot { 1 ≤ self.now.number }
         requires buffer { length into.old ≡ self.now.text }
         requires disk { (D.view disk.old).size ≡ DATA + self.now.room }
-        ensures text { OnOk result ((p : Contents) (text : List ℕ) → IsReady (D.view disk.old) self.now p → p.text ≡ Some text → into.new ≡ text) }
-        ensures ready { OnOk result ((p : Contents) → IsReady (D.view disk.old) self.now p → IsReady (D.view disk.new) self.now p) }
+
+        // After `Ok` these are the bytes of the contents, for which the disk stands as before.
+        ensures text { OnOk result ((p : Contents) (text : List ℕ)
+            → IsReady (D.view disk.old) self.now p → p.text ≡ Some text → into.new ≡ text) }
+        ensures ready { OnOk result ((p : Contents) → IsReady (D.view disk.old) self.now p
+            → IsReady (D.view disk.new) self.now p) }
+
+        // The disk stays as it is, at every moment.
         ensures quiet { OnOk result (Quiet 1 (D.view disk.old) (D.view disk.new)) }
-        ensures any_moment { LeavesOnly (D.view disk.old).images (D.view disk.old) (D.view disk.new) }
+        ensures any_moment { LeavesOnly (D.view disk.old).images (D.view disk.old)
+            (D.view disk.new) }
         ensures size { (D.view disk.new).size ≡ (D.view disk.old).size }
         ensures broke { OnErr result (Broke (D.view disk.old) (D.view disk.new)) }
     {
         disk.read(self.manifest_place(), into)?;
         Ok(())
+    }
+
+    /// Whether the snapshot has a file of this id, with `count` bytes from the offset on. Then they may be read.
+    pub fn has_bytes(&self, media: MediaId, offset: u32, count: usize) -> bool
+        ensures there { result ≡ true
+            → IsSomeAnd (find (λ q. q.file.media.0 == media.0) self.now.current)
+            (λ q. offset + count ≤ q.file.length) }
+        ensures only { result ≡ false
+            → IsSomeAnd (find (λ q. q.file.media.0 == media.0) self.now.current)
+            (λ q. offset + count ≤ q.file.length) → ⊥ }
+    {
+        match find_media(self.current.as_slice(), media) {
+            Some(placed) => {
+                offset <= placed.file.length && count <= (placed.file.length - offset) as usize
+            }
+            None => false,
+        }
     }
 
     /// Reads bytes of a file of the snapshot, from an offset on, in one call.
@@ -44,12 +70,21 @@ impl Store {
         offset: u32,
         into: &mut [u8],
     ) -> Result<(), DiskFailed>
-        requires file { IsSomeAnd (find (λ q. q.file.media.0 == media.0) self.now.current) (λ q. offset + length into.old ≤ q.file.length) }
+        requires file { IsSomeAnd (find (λ q. q.file.media.0 == media.0) self.now.current)
+            (λ q. offset + length into.old ≤ q.file.length) }
         requires disk { (D.view disk.old).size ≡ DATA + self.now.room }
-        ensures bytes { OnOk result ((p : Contents) (f : StoredFile) → IsReady (D.view disk.old) self.now p → Contains p.files f → f.listed.media.0 ≡ media.0 → into.new ≡ range f.bytes offset (length into.old)) }
-        ensures ready { OnOk result ((p : Contents) → IsReady (D.view disk.old) self.now p → IsReady (D.view disk.new) self.now p) }
+
+        // After `Ok` these are the bytes of the contents, for which the disk stands as before.
+        ensures bytes { OnOk result ((p : Contents) (f : StoredFile)
+            → IsReady (D.view disk.old) self.now p → Contains p.files f → f.listed.media.0 ≡ media.0
+            → into.new ≡ range f.bytes offset (length into.old)) }
+        ensures ready { OnOk result ((p : Contents) → IsReady (D.view disk.old) self.now p
+            → IsReady (D.view disk.new) self.now p) }
+
+        // The disk stays as it is, at every moment.
         ensures quiet { OnOk result (Quiet 1 (D.view disk.old) (D.view disk.new)) }
-        ensures any_moment { LeavesOnly (D.view disk.old).images (D.view disk.old) (D.view disk.new) }
+        ensures any_moment { LeavesOnly (D.view disk.old).images (D.view disk.old)
+            (D.view disk.new) }
         ensures size { (D.view disk.new).size ≡ (D.view disk.old).size }
         ensures broke { OnErr result (Broke (D.view disk.old) (D.view disk.new)) }
     {
@@ -60,8 +95,10 @@ impl Store {
 
     // Where a file of the snapshot begins.
     fn place_of(&self, media: MediaId) -> u64
-        requires { IsSomeAnd (find (λ q. q.file.media.0 == media.0) self.now.current) (λ q. 0 ≤ q.file.length) }
-        ensures { IsSomeAnd (find (λ q. q.file.media.0 == media.0) self.now.current) (λ q. result ≡ q.place) }
+        requires { IsSomeAnd (find (λ q. q.file.media.0 == media.0) self.now.current)
+            (λ q. 0 ≤ q.file.length) }
+        ensures { IsSomeAnd (find (λ q. q.file.media.0 == media.0) self.now.current)
+            (λ q. result ≡ q.place) }
     {
         match find_media(self.current.as_slice(), media) {
             Some(placed) => placed.place,

@@ -16,7 +16,8 @@ use crate::faults::{DigestDiffers, NoSpace};
 use crate::store::{Half, Store};
 use md5::{Digest, Md5};
 use sg_base::Listed;
-use sg_disk::{DATA, Disk, DiskFailed, MAX_FILE_LEN, MAX_FILES};
+use sg_base::limits::{MANIFEST_FILES, MAX_FILE_LEN};
+use sg_disk::{DATA, Disk, DiskFailed};
 use sg_placing::{Placed, is_listed, longest_gap, lowest_gap};
 
 impl Store {
@@ -29,9 +30,9 @@ impl Store {
 
     /// Whether as many files are staged and sealed as a snapshot may have, 512. Then no file may be begun.
     pub fn is_full(&self) -> bool
-        ensures { IsTrue result ↔ (MAX_FILES ≤ length self.now.staged) }
+        ensures { IsTrue result ↔ (MANIFEST_FILES ≤ length self.now.staged) }
     {
-        self.staged.as_slice().len() >= MAX_FILES as usize
+        self.staged.as_slice().len() >= MANIFEST_FILES as usize
     }
 
     /// Begins to stage a file, at the front of the lowest gap that is long enough. A gap is what neither the snapshot's files
@@ -42,10 +43,21 @@ impl Store {
         requires long { file.now.length ≤ MAX_FILE_LEN }
         requires new { is_held self.old file.now ≡ false }
         requires idle { self.old.half ≡ None }
-        requires few { length self.old.staged < MAX_FILES }
-        ensures began { OnOk result ((place : ℕ) × IsLowest self.old.room (taken_files self.old) file.now.length place × IsHalf self.new (record { file = file.now; place = place }) []) }
-        ensures refused { (fault : NoSpace) → IsErrOf result fault → (fault.need ≡ file.now.length) × IsLongest self.old.room (taken_files self.old) fault.largest × (fault.largest < fault.need) }
+        requires few { length self.old.staged < MANIFEST_FILES }
+
+        // After `Ok` nothing has come of the file, which takes the lowest gap that is long enough.
+        ensures began { OnOk result ((place : ℕ) × IsLowest self.old.room
+            (taken_files self.old) file.now.length place
+            × IsHalf self.new (record { file = file.now; place = place }) []) }
+
+        // `NoSpace` comes only where no gap is, and then nothing changes.
+        ensures refused { (fault : NoSpace) → IsErrOf result fault
+            → (fault.need ≡ file.now.length)
+            × IsLongest self.old.room (taken_files self.old) fault.largest
+            × (fault.largest < fault.need) }
         ensures unchanged { OnErr result (self.new ≡ self.old) }
+
+        // What stays of the store.
         ensures snapshot { KeepsSnapshot self.old self.new }
         ensures sealed { self.new.staged ≡ self.old.staged }
         ensures staged { (c : List ℕ) → HasStaged self.old c → HasStaged self.new c }
@@ -80,19 +92,35 @@ impl Store {
 
     /// Writes the next bytes of the half staged file to its place, in one call. They are stable after the next switch.
     pub fn stage_bytes<D: Disk>(&mut self, disk: &mut D, bytes: &[u8]) -> Result<(), DiskFailed>
-        requires fits { IsSomeAnd self.old.half (λ h. h.count + length bytes.now ≤ h.placed.file.length) }
+        requires fits { IsSomeAnd self.old.half (λ h. h.count + length bytes.now
+            ≤ h.placed.file.length) }
         requires disk { (D.view disk.old).size ≡ DATA + self.old.room }
-        ensures any_moment { (p : Contents) → IsReady (D.view disk.old) self.old p → LeavesOnly (StandsFor p) (D.view disk.old) (D.view disk.new) }
-        ensures ready { OnOk result ((p : Contents) → IsReady (D.view disk.old) self.old p → IsReady (D.view disk.new) self.new p) }
-        ensures bytes { OnOk result ((placed : Placed) (before : List ℕ) → IsHalf self.old placed before → IsHalf self.new placed (before ++ bytes.now)) }
-        ensures half_bytes { OnOk result ((p : Contents) (f : StoredFile) → IsReady (D.view disk.old) self.old p → half_file self.old (D.view disk.old).bytes ≡ Some f → half_file self.new (D.view disk.new).bytes ≡ Some (record f { bytes = f.bytes ++ bytes.now })) }
-        ensures sealed_bytes { OnOk result ((p : Contents) → IsReady (D.view disk.old) self.old p → sealed_files self.new (D.view disk.new).bytes ≡ sealed_files self.old (D.view disk.old).bytes) }
+
+        // At any moment a crash leaves the contents as they were. Nothing but the data area is written.
+        ensures any_moment { (p : Contents) → IsReady (D.view disk.old) self.old p
+            → LeavesOnly (StandsFor p) (D.view disk.old) (D.view disk.new) }
+        ensures within { Within DATA self.old.room (D.view disk.old) (D.view disk.new) }
+        ensures journal { (D.view disk.old).told → HasOneJournal (D.view disk.old)
+            → HasOneJournal (D.view disk.new) }
+        ensures size { (D.view disk.new).size ≡ (D.view disk.old).size }
+
+        // After `Ok` the bytes stand behind those that came before, and the sealed files have theirs.
+        ensures ready { OnOk result ((p : Contents) → IsReady (D.view disk.old) self.old p
+            → IsReady (D.view disk.new) self.new p) }
+        ensures bytes { OnOk result ((placed : Placed) (before : List ℕ)
+            → IsHalf self.old placed before → IsHalf self.new placed (before ++ bytes.now)) }
+        ensures half_bytes { let v = D.view disk.old in OnOk result ((p : Contents) (f : StoredFile)
+            → IsReady v self.old p → half_file self.old v.bytes ≡ Some f
+            → half_file self.new (D.view disk.new).bytes
+            ≡ Some (record f { bytes = f.bytes ++ bytes.now })) }
+        ensures sealed_bytes { let v = D.view disk.old in OnOk result ((p : Contents)
+            → IsReady v self.old p
+            → sealed_files self.new (D.view disk.new).bytes ≡ sealed_files self.old v.bytes) }
+        ensures ran { OnOk result (Ran 1 (D.view disk.old) (D.view disk.new)) }
+
+        // What stays of the store, and why the call is refused.
         ensures snapshot { KeepsSnapshot self.old self.new }
         ensures sealed { self.new.staged ≡ self.old.staged }
-        ensures within { Within DATA self.old.room (D.view disk.old) (D.view disk.new) }
-        ensures journal { (D.view disk.old).told → HasOneJournal (D.view disk.old) → HasOneJournal (D.view disk.new) }
-        ensures ran { OnOk result (Ran 1 (D.view disk.old) (D.view disk.new)) }
-        ensures size { (D.view disk.new).size ≡ (D.view disk.old).size }
         ensures broke { OnErr result (Broke (D.view disk.old) (D.view disk.new)) }
     {
         let place = self.next_place();
@@ -114,8 +142,10 @@ impl Store {
 
     // Takes the next bytes of the half staged file into its digest.
     fn take_in(&mut self, bytes: &[u8])
-        requires { IsSomeAnd self.old.half (λ h. h.count + length bytes.now ≤ h.placed.file.length) }
-        ensures bytes { (placed : Placed) (before : List ℕ) → IsHalf self.old placed before → IsHalf self.new placed (before ++ bytes.now) }
+        requires { IsSomeAnd self.old.half (λ h. h.count + length bytes.now
+            ≤ h.placed.file.length) }
+        ensures bytes { (placed : Placed) (before : List ℕ) → IsHalf self.old placed before
+            → IsHalf self.new placed (before ++ bytes.now) }
         ensures snapshot { KeepsSnapshot self.old self.new }
         ensures sealed { self.new.staged ≡ self.old.staged }
     {
@@ -129,11 +159,24 @@ impl Store {
     /// Takes the half staged file as held, where its bytes have the listed MD5. Otherwise it is given up.
     pub fn stage_seal(&mut self) -> Result<(), DigestDiffers>
         requires { IsSomeAnd self.old.half (λ h. h.count ≡ h.placed.file.length) }
-        ensures sealed { OnOk result ((placed : Placed) (bytes : List ℕ) → IsHalf self.old placed bytes → (md5 bytes ≡ placed.file.md5) × (self.new.staged ≡ self.old.staged ++ placed ∷ [])) }
-        ensures sealed_bytes { OnOk result ((c : List ℕ) (f : StoredFile) → half_file self.old c ≡ Some f → sealed_files self.new c ≡ sealed_files self.old c ++ f ∷ []) }
-        ensures digest { OnOk result ((c : List ℕ) (f : StoredFile) → HasStaged self.old c → half_file self.old c ≡ Some f → md5 f.bytes ≡ f.listed.md5) }
-        ensures differs { (fault : DigestDiffers) → IsErrOf result fault → (placed : Placed) (bytes : List ℕ) → IsHalf self.old placed bytes → (md5 bytes ≡ fault.found) × (fault.found ≢ placed.file.md5) }
+
+        // After `Ok` the file stands behind the sealed ones, and its bytes have the listed MD5.
+        ensures sealed { OnOk result ((placed : Placed) (bytes : List ℕ)
+            → IsHalf self.old placed bytes
+            → (md5 bytes ≡ placed.file.md5) × (self.new.staged ≡ self.old.staged ++ placed ∷ [])) }
+        ensures sealed_bytes { OnOk result ((c : List ℕ) (f : StoredFile)
+            → half_file self.old c ≡ Some f
+            → sealed_files self.new c ≡ sealed_files self.old c ++ f ∷ []) }
+        ensures digest { OnOk result ((c : List ℕ) (f : StoredFile) → HasStaged self.old c
+            → half_file self.old c ≡ Some f → md5 f.bytes ≡ f.listed.md5) }
+
+        // They have another one where it is refused. Then the file is given up.
+        ensures differs { (fault : DigestDiffers) → IsErrOf result fault
+            → (placed : Placed) (bytes : List ℕ) → IsHalf self.old placed bytes
+            → (md5 bytes ≡ fault.found) × (fault.found ≢ placed.file.md5) }
         ensures given_up { OnErr result (self.new.staged ≡ self.old.staged) }
+
+        // What is so in both cases.
         ensures idle { self.new.half ≡ None }
         ensures snapshot { KeepsSnapshot self.old self.new }
         ensures staged { (c : List ℕ) → HasStaged self.old c → HasStaged self.new c }
@@ -151,9 +194,12 @@ impl Store {
 
     /// Gives up the staged files that aren't among these, the half staged one too.
     pub fn stage_keep(&mut self, files: &[Listed])
-        ensures sealed { self.new.staged ≡ filter (λ p. list_any (λ f. same_file f p.file) files.now) self.old.staged }
-        ensures kept { IfSome self.old.half (λ h. list_any (λ f. same_file f h.placed.file) files.now ≡ true → self.new.half ≡ self.old.half) }
-        ensures given_up { IfSome self.old.half (λ h. list_any (λ f. same_file f h.placed.file) files.now ≡ false → self.new.half ≡ None) }
+        ensures sealed { self.new.staged ≡ filter (λ p. list_any
+            (λ f. same_file f p.file) files.now) self.old.staged }
+        ensures kept { IfSome self.old.half (λ h. list_any
+            (λ f. same_file f h.placed.file) files.now ≡ true → self.new.half ≡ self.old.half) }
+        ensures given_up { IfSome self.old.half (λ h. list_any
+            (λ f. same_file f h.placed.file) files.now ≡ false → self.new.half ≡ None) }
         ensures either { (self.new.half ≡ self.old.half) ⊎ (self.new.half ≡ None) }
         ensures snapshot { KeepsSnapshot self.old self.new }
         ensures staged { (c : List ℕ) → HasStaged self.old c → HasStaged self.new c }
@@ -164,7 +210,8 @@ impl Store {
 
     // Gives up the sealed files that aren't among these.
     fn keep_sealed(&mut self, files: &[Listed])
-        ensures sealed { self.new.staged ≡ filter (λ p. list_any (λ f. same_file f p.file) files.now) self.old.staged }
+        ensures sealed { self.new.staged ≡ filter (λ p. list_any
+            (λ f. same_file f p.file) files.now) self.old.staged }
         ensures half { self.new.half ≡ self.old.half }
         ensures snapshot { KeepsSnapshot self.old self.new }
     {
@@ -173,8 +220,10 @@ impl Store {
 
     // Gives up the half staged file, where it isn't among these.
     fn keep_half(&mut self, files: &[Listed])
-        ensures kept { IfSome self.old.half (λ h. list_any (λ f. same_file f h.placed.file) files.now ≡ true → self.new.half ≡ self.old.half) }
-        ensures given_up { IfSome self.old.half (λ h. list_any (λ f. same_file f h.placed.file) files.now ≡ false → self.new.half ≡ None) }
+        ensures kept { IfSome self.old.half (λ h. list_any
+            (λ f. same_file f h.placed.file) files.now ≡ true → self.new.half ≡ self.old.half) }
+        ensures given_up { IfSome self.old.half (λ h. list_any
+            (λ f. same_file f h.placed.file) files.now ≡ false → self.new.half ≡ None) }
         ensures either { (self.new.half ≡ self.old.half) ⊎ (self.new.half ≡ None) }
         ensures sealed { self.new.staged ≡ self.old.staged }
         ensures snapshot { KeepsSnapshot self.old self.new }

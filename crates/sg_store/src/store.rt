@@ -1,5 +1,7 @@
 // The store in memory, and its calls that need no disk.
 ghost use Rattle.std.specs.Prelude.{◌≡◌, ◌≤◌, ◌<◌, length, All, vec_capacity, slice_index_or};
+ghost use Rattle.sg_base.specs.declared.limits.TheConstants.{MAX_ROOM, MANIFEST_FILES, MANIFEST_TEXT};
+ghost use Rattle.sg_disk.specs.declared.places.TheConstants.{TABLE_LEN};
 ghost use Rattle.sg_placing.specs.declared.placed.Placed.{Placed};
 ghost use Rattle.std.specs.Option.{ForSome};
 ghost use Rattle.sg_placing.specs.Placing.{IsPlaced};
@@ -38,15 +40,15 @@ pub struct Store {
     // Room for the files of a switch, and for the bytes of its table.
     pub(crate) next: Shelf,
     pub(crate) table: Vec<u8>,
-    ghost room_fits: { room ≤ 1073741824 },
-    ghost text_fits: { text ≤ 1048576 },
-    ghost table_room: { 16384 ≤ vec_capacity table },
+    ghost room_fits: { room ≤ MAX_ROOM },
+    ghost text_fits: { text ≤ MANIFEST_TEXT },
+    ghost table_room: { TABLE_LEN ≤ vec_capacity table },
     ghost current_placed: { All (IsPlaced room) current },
     ghost staged_placed: { All (IsPlaced room) staged },
-    ghost few: { length staged ≤ 512 },
+    ghost few: { length staged ≤ MANIFEST_FILES },
     ghost half_placed: { ForSome half (λ h. IsPlaced room h.placed) },
     ghost half_count: { ForSome half (λ h. h.count ≤ h.placed.file.length) },
-    ghost half_few: { ForSome half (λ h. length staged < 512) },
+    ghost half_few: { ForSome half (λ h. length staged < MANIFEST_FILES) },
 }
 
 impl Store {
@@ -62,6 +64,13 @@ impl Store {
         ensures { result ≡ self.now.epoch }
     {
         self.epoch
+    }
+
+    /// The length of the data area in bytes.
+    pub fn room(&self) -> u64
+        ensures { result ≡ self.now.room }
+    {
+        self.room
     }
 
     /// The switch number of the snapshot, 0 without one.

@@ -1,18 +1,19 @@
 // The switch: the next snapshot becomes the current one by one byte.
-ghost use Rattle.std.specs.Prelude.{◌≡◌, ◌≢◌, ℕ, ◌+◌, ◌-◌, ◌<◌, ◌≤◌, ◌^◌, ◌==◌, [], length, map, None, OnOk, OnErr, IsErrOf, All, AllPairs, true, false, not};
+ghost use Rattle.std.specs.Prelude.{◌≡◌, ◌≢◌, ℕ, ◌+◌, ◌-◌, ◌<◌, ◌≤◌, ◌^◌, ◌==◌, ◌*◌, [], length, map, None, OnOk, OnErr, IsErrOf, All, AllPairs, true, false, not};
 ghost use Rattle.sg_disk.specs.Runs.{LeavesOnly, Ran, Broke, Within};
-ghost use Rattle.sg_disk.specs.Contents.{Contents, switched};
+ghost use Rattle.sg_disk.specs.Contents.{Contents};
 ghost use Rattle.sg_disk.specs.StandsFor.{StandsFor, Either, Two, Between, HasOneJournal};
 ghost use Rattle.sg_placing.specs.Placing.{IsPlaced};
 ghost use Rattle.sg_slots.specs.Bytes.{table_bytes};
 ghost use Rattle.sg_slots.specs.Slots.{opposite};
-ghost use Rattle.sg_store.specs.Ready.{whole_files, chosen, is_held, stored_files, KeepsSnapshot, IsReady};
+ghost use Rattle.sg_store.specs.Ready.{whole_files, chosen, is_held, after_switch, KeepsSnapshot, IsReady};
 
 use crate::choice::choose_files;
 use crate::faults::SwitchFault;
 use crate::store::Store;
 use sg_base::Listed;
-use sg_disk::{DATA, Disk, MAX_FILES, MAX_TEXT, SLOT_ZERO, SWITCH_CALLS, close_gate, write_synced};
+use sg_base::limits::{MANIFEST_FILES, MANIFEST_TEXT};
+use sg_disk::{DATA, Disk, SLOT_LEN, SLOT_ZERO, SWITCH_CALLS, TABLE_LEN, close_gate, write_synced};
 use sg_slots::{fill_slot, fill_table, head_fields_of};
 use std::mem;
 
@@ -28,29 +29,48 @@ impl Store {
         manifest: &[u8],
         files: &[Listed],
     ) -> Result<(), SwitchFault>
-        requires few { length files.now ≤ MAX_FILES }
+        requires few { length files.now ≤ MANIFEST_FILES }
         requires ascending { AllPairs (λ f g. f.media.0 < g.media.0) files.now }
         requires held { All (λ f. is_held self.old f ≡ true) files.now }
         requires some { 1 ≤ length manifest.now }
-        requires long { length manifest.now ≤ MAX_TEXT }
+        requires long { length manifest.now ≤ MANIFEST_TEXT }
         requires disk { (D.view disk.old).size ≡ DATA + self.old.room }
-        ensures any_moment { (p : Contents) → IsReady (D.view disk.old) self.old p → LeavesOnly (Either p (switched p manifest.now (stored_files self.old (D.view disk.old).bytes files.now))) (D.view disk.old) (D.view disk.new) }
-        ensures ready { OnOk result ((p : Contents) → IsReady (D.view disk.old) self.old p → IsReady (D.view disk.new) self.new (switched p manifest.now (stored_files self.old (D.view disk.old).bytes files.now))) }
-        ensures between { IsErrOf result SwitchFault.Disk → (p : Contents) → IsReady (D.view disk.old) self.old p → Between (D.view disk.new) (Two p (switched p manifest.now (stored_files self.old (D.view disk.old).bytes files.now))) }
+
+        // At any moment a crash leaves the contents before or those after, whole. Nothing but the slots is written.
+        ensures any_moment { let v = D.view disk.old in (p : Contents) → IsReady v self.old p
+            → LeavesOnly (Either p (after_switch self.old v.bytes p manifest.now files.now))
+            v (D.view disk.new) }
+        ensures within { Within SLOT_ZERO (2 * SLOT_LEN) (D.view disk.old) (D.view disk.new) }
+        ensures journal { (D.view disk.old).told → HasOneJournal (D.view disk.old)
+            → HasOneJournal (D.view disk.new) }
+        ensures size { (D.view disk.new).size ≡ (D.view disk.old).size }
+
+        // After `Ok` the disk is settled with the contents after, the store knows them, and nothing is staged.
+        ensures ready { OnOk result (let v = D.view disk.old in (p : Contents) → IsReady v self.old p
+            → IsReady (D.view disk.new) self.new
+            (after_switch self.old v.bytes p manifest.now files.now)) }
         ensures number { OnOk result (self.new.number ≡ self.old.number + 1) }
         ensures idle { OnOk result (self.new.half ≡ None) }
         ensures sealed { OnOk result (self.new.staged ≡ []) }
         ensures room { self.new.room ≡ self.old.room }
-        ensures spent { IsErrOf result SwitchFault.Spent → self.old.number ≡ 4294967295 }
-        ensures spent_so { self.old.number ≡ 4294967295 → IsErrOf result SwitchFault.Spent }
-        ensures kept { IsErrOf result SwitchFault.Spent → self.new ≡ self.old }
-        ensures still { IsErrOf result SwitchFault.Spent → Ran 0 (D.view disk.old) (D.view disk.new) }
-        ensures untouched { IsErrOf result SwitchFault.Spent → LeavesOnly (D.view disk.old).images (D.view disk.old) (D.view disk.new) }
-        ensures broke { IsErrOf result SwitchFault.Disk → Broke (D.view disk.old) (D.view disk.new) }
         ensures ran { OnOk result (Ran SWITCH_CALLS (D.view disk.old) (D.view disk.new)) }
-        ensures within { Within SLOT_ZERO 2138112 (D.view disk.old) (D.view disk.new) }
-        ensures journal { (D.view disk.old).told → HasOneJournal (D.view disk.old) → HasOneJournal (D.view disk.new) }
-        ensures size { (D.view disk.new).size ≡ (D.view disk.old).size }
+
+        // Where the numbers are used up, nothing changes.
+        ensures spent { IsErrOf result SwitchFault.Spent → self.old.number ≡ u32.MAX }
+        ensures spent_so { self.old.number ≡ u32.MAX → IsErrOf result SwitchFault.Spent }
+        ensures kept { IsErrOf result SwitchFault.Spent → self.new ≡ self.old }
+        ensures still { IsErrOf result SwitchFault.Spent
+            → Ran 0 (D.view disk.old) (D.view disk.new) }
+        ensures untouched { IsErrOf result SwitchFault.Spent
+            → LeavesOnly (D.view disk.old).images (D.view disk.old) (D.view disk.new) }
+
+        // Where the disk failed, it stands for the contents before or those after.
+        ensures broke { IsErrOf result SwitchFault.Disk
+            → Broke (D.view disk.old) (D.view disk.new) }
+        ensures between { IsErrOf result SwitchFault.Disk
+            → (let v = D.view disk.old in (p : Contents) → IsReady v self.old p
+            → Between (D.view disk.new)
+            (Two p (after_switch self.old v.bytes p manifest.now files.now))) }
     {
         if self.number == u32::MAX {
             return Err(SwitchFault::Spent);
@@ -68,11 +88,12 @@ impl Store {
 
     // Gathers the files of a switch, and the bytes of their table.
     fn gather(&mut self, files: &[Listed])
-        requires few { length files.now ≤ MAX_FILES }
+        requires few { length files.now ≤ MANIFEST_FILES }
         requires held { All (λ f. is_held self.old f ≡ true) files.now }
         ensures next { self.new.next ≡ map (chosen (whole_files self.old)) files.now }
-        ensures table { self.new.table.items ≡ table_bytes (map (chosen (whole_files self.old)) files.now) }
-        ensures len { length self.new.table.items ≤ 16384 }
+        ensures table { self.new.table.items ≡ table_bytes
+            (map (chosen (whole_files self.old)) files.now) }
+        ensures len { length self.new.table.items ≤ TABLE_LEN }
         ensures snapshot { KeepsSnapshot self.old self.new }
         ensures sealed { self.new.staged ≡ self.old.staged }
     {
@@ -88,7 +109,7 @@ impl Store {
     // Takes the gathered files as those of the snapshot.
     fn take_over(&mut self, number: u32, text: u32)
         requires placed { All (IsPlaced self.old.room) self.old.next }
-        requires text { text ≤ MAX_TEXT }
+        requires text { text ≤ MANIFEST_TEXT }
         ensures display { self.new.display ≡ self.old.display }
         ensures epoch { self.new.epoch ≡ self.old.epoch }
         ensures room { self.new.room ≡ self.old.room }

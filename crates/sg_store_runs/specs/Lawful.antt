@@ -1,7 +1,7 @@
 -- What a store asks of each call.
 use Rattle.std.specs.Prelude.{◌≡◌, ◌+◌, ◌<◌, ◌≤◌, List, length, All, AllPairs, IsSomeAnd, None, true, false}
 use Rattle.sg_base.specs.declared.file.Listed.{Listed}
-use Rattle.sg_disk.specs.declared.places.TheConstants.{MAX_FILES, MAX_FILE_LEN, MAX_TEXT}
+use Rattle.sg_base.specs.declared.limits.TheConstants.{MANIFEST_FILES, MANIFEST_TEXT, MAX_FILE_LEN}
 use Rattle.sg_store.specs.Ready.{is_held}
 use Rattle.sg_store.specs.declared.store.Store.{Store}
 use Rattle.sg_store_runs.specs.declared.call.Call.{Call}
@@ -9,7 +9,7 @@ use Rattle.sg_store_runs.specs.declared.call.Call.TheVariants.{Begin, Bytes, Sea
 
 -- the files of a switch: at most 512, by strictly ascending id, each held
 pub record AreHeld (s : Store) (files : List Listed) : Type 0 where
-  pub few : length files ≤ MAX_FILES
+  pub few : length files ≤ MANIFEST_FILES
   pub ascending : AllPairs (λ f g. f.media.0 < g.media.0) files
   pub held : All (λ f. is_held s f ≡ true) files
 
@@ -20,7 +20,7 @@ pub record MayBegin (s : Store) (file : Listed) : Type 0 where
   pub long : file.length ≤ MAX_FILE_LEN
   pub new : is_held s file ≡ false
   pub idle : s.half ≡ None
-  pub few : length s.staged < MAX_FILES
+  pub few : length s.staged < MANIFEST_FILES
 
 abbrev pub IsLawful : Store → Call → Type 0
 IsLawful s (Begin file) = MayBegin s file
@@ -29,5 +29,6 @@ IsLawful s (Bytes bytes) = IsSomeAnd s.half (λ h. h.count + length bytes ≤ h.
 -- all its bytes have come
 IsLawful s Seal = IsSomeAnd s.half (λ h. h.count ≡ h.placed.file.length)
 IsLawful s (Keep files) = Unit {0}
-IsLawful s (Switch manifest files) = AreHeld s files × (1 ≤ length manifest) × (length manifest ≤ MAX_TEXT)
+IsLawful s (Switch manifest files) = AreHeld s files × (1 ≤ length manifest)
+    × (length manifest ≤ MANIFEST_TEXT)
 IsLawful s Open = Unit {0}

@@ -16,7 +16,11 @@ whole_of stage = stage.contents.files ++ stage.sealed
 
 -- a file at a place, of which no byte has come
 abbrev pub begun_at : ℕ → Listed → StoredFile
-begun_at place file = record { listed = file; segments = segments_of_placed (record { file = file; place = place }); bytes = [] }
+begun_at place file = record {
+  listed = file;
+  segments = segments_of_placed (record { file = file; place = place });
+  bytes = [];
+}
 
 -- whether a file is one of the listed ones: it has the id, the length and the MD5 of one of them
 abbrev pub is_among : List Listed → StoredFile → Bool
@@ -34,15 +38,24 @@ found_in files listed = find (λ f. same_file f.listed listed) files
 -- A call takes a stage to the next one
 abbrev pub Step : Stage → Call → Stage → Type 0
 -- Begin: an empty file stands half staged at the front of the lowest gap that has its bytes
-Step old (Begin file) new = (place : ℕ) × IsLowest old.contents.room (map placed_of (whole_of old)) file.length place × (old.half ≡ None) × (new ≡ record old { half = Some (begun_at place file) })
+Step old (Begin file) new = (place : ℕ)
+    × IsLowest old.contents.room (map placed_of (whole_of old)) file.length place
+    × (old.half ≡ None) × (new ≡ record old { half = Some (begun_at place file) })
 -- Bytes: they go behind those that have come
-Step old (Bytes bytes) new = IsSomeAnd old.half (λ f. (length f.bytes + length bytes ≤ f.listed.length) × (new ≡ record old { half = Some (record f { bytes = f.bytes ++ bytes }) }))
+Step old (Bytes bytes) new = IsSomeAnd old.half
+    (λ f. (length f.bytes + length bytes ≤ f.listed.length)
+    × (new ≡ record old { half = Some (record f { bytes = f.bytes ++ bytes }) }))
 -- Seal: the half staged file has its length and its MD5, and goes behind the sealed ones
-Step old Seal new = IsSomeAnd old.half (λ f. (length f.bytes ≡ f.listed.length) × (md5 f.bytes ≡ f.listed.md5) × (new ≡ record old { sealed = old.sealed ++ f ∷ []; half = None }))
+Step old Seal new = IsSomeAnd old.half (λ f. (length f.bytes ≡ f.listed.length)
+    × (md5 f.bytes ≡ f.listed.md5)
+    × (new ≡ record old { sealed = old.sealed ++ f ∷ []; half = None }))
 -- Keep: of the staged files those stay that are listed
-Step old (Keep listed) new = new ≡ record old { sealed = filter (is_among listed) old.sealed; half = kept listed old.half }
+Step old (Keep listed) new = new
+    ≡ record old { sealed = filter (is_among listed) old.sealed; half = kept listed old.half }
 -- Switch: the contents have the manifest and the listed files, each of which was whole, and nothing is staged
-Step old (Switch manifest listed) new = (files : List StoredFile) × (map (found_in (whole_of old)) listed ≡ map Some files) × (new ≡ record { contents = switched old.contents manifest files; sealed = []; half = None })
+Step old (Switch manifest listed) new = (files : List StoredFile)
+    × (map (found_in (whole_of old)) listed ≡ map Some files)
+    × (new ≡ record { contents = switched old.contents manifest files; sealed = []; half = None })
 -- Open: nothing is staged
 Step old Open new = new ≡ record old { sealed = []; half = None }
 

@@ -1,5 +1,5 @@
 -- How a refusal of the store ends a run.
-use Rattle.std.specs.Prelude.{◌≡◌, ◌<◌, None}
+use Rattle.std.specs.Prelude.{◌≡◌, ◌-◌, ◌^◌, ◌<◌, None}
 use Rattle.sg_placing.specs.Placing.{IsLongest}
 use Rattle.sg_store.specs.Ready.{taken_files}
 use Rattle.sg_store.specs.declared.store.Store.{Store}
@@ -37,9 +37,10 @@ BlamesDisk Memory = ⊥
 -- switch numbers are used up. The others tell nothing of it
 abbrev pub Tells : Store → Stop → Type 0
 Tells s Unlawful = Unit {0}
-Tells s (NoSpace fault) = IsLongest s.room (taken_files s) fault.largest × (fault.largest < fault.need)
+Tells s (NoSpace fault) = IsLongest s.room (taken_files s) fault.largest
+    × (fault.largest < fault.need)
 Tells s (DigestDiffers fault) = s.half ≡ None
-Tells s Spent = s.number ≡ 4294967295
+Tells s Spent = s.number ≡ 2 ^ 32 - 1
 Tells s Disk = Unit {0}
 Tells s Unformatted = Unit {0}
 Tells s (Damaged place found) = Unit {0}

@@ -4,7 +4,7 @@ ghost use Rattle.sg_store.specs.Ready.{is_held};
 ghost use Rattle.sg_store_runs.specs.Lawful.{MayBegin, AreHeld};
 
 use sg_base::Listed;
-use sg_disk::{MAX_FILE_LEN, MAX_FILES, MAX_TEXT};
+use sg_base::limits::{MANIFEST_FILES, MANIFEST_TEXT, MAX_FILE_LEN};
 use sg_store::Store;
 
 /// Whether a file may be begun.
@@ -14,7 +14,7 @@ pub fn may_begin(store: &Store, file: &Listed) -> bool
     ensures long { result ≡ true → file.now.length ≤ MAX_FILE_LEN }
     ensures new { result ≡ true → is_held store.now file.now ≡ false }
     ensures idle { result ≡ true → store.now.half ≡ None }
-    ensures few { result ≡ true → length store.now.staged < MAX_FILES }
+    ensures few { result ≡ true → length store.now.staged < MANIFEST_FILES }
     ensures only { result ≡ false → MayBegin store.now file.now → ⊥ }
 {
     if file.media.0 == 0 || file.length == 0 || u64::from(file.length) > MAX_FILE_LEN {
@@ -31,8 +31,10 @@ pub fn may_begin(store: &Store, file: &Listed) -> bool
 
 /// Whether so many bytes more belong to the half staged file.
 pub fn may_bring(store: &Store, count: usize) -> bool
-    ensures lawful { result ≡ true → IsSomeAnd store.now.half (λ h. h.count + count ≤ h.placed.file.length) }
-    ensures only { result ≡ false → IsSomeAnd store.now.half (λ h. h.count + count ≤ h.placed.file.length) → ⊥ }
+    ensures lawful { result ≡ true → IsSomeAnd store.now.half
+        (λ h. h.count + count ≤ h.placed.file.length) }
+    ensures only { result ≡ false → IsSomeAnd store.now.half
+        (λ h. h.count + count ≤ h.placed.file.length) → ⊥ }
 {
     match store.staged() {
         Some((file, came)) => came <= file.length && count <= (file.length - came) as usize,
@@ -42,8 +44,10 @@ pub fn may_bring(store: &Store, count: usize) -> bool
 
 /// Whether all bytes of the half staged file have come.
 pub fn may_seal(store: &Store) -> bool
-    ensures lawful { result ≡ true → IsSomeAnd store.now.half (λ h. h.count ≡ h.placed.file.length) }
-    ensures only { result ≡ false → IsSomeAnd store.now.half (λ h. h.count ≡ h.placed.file.length) → ⊥ }
+    ensures lawful { result ≡ true → IsSomeAnd store.now.half
+        (λ h. h.count ≡ h.placed.file.length) }
+    ensures only { result ≡ false → IsSomeAnd store.now.half (λ h. h.count ≡ h.placed.file.length)
+        → ⊥ }
 {
     match store.staged() {
         Some((file, came)) => came == file.length,
@@ -53,16 +57,17 @@ pub fn may_seal(store: &Store) -> bool
 
 /// Whether a manifest and its files may become current.
 pub fn may_switch(store: &Store, manifest: &[u8], files: &[Listed]) -> bool
-    ensures few { result ≡ true → length files.now ≤ MAX_FILES }
+    ensures few { result ≡ true → length files.now ≤ MANIFEST_FILES }
     ensures ascending { result ≡ true → AllPairs (λ f g. f.media.0 < g.media.0) files.now }
     ensures held { result ≡ true → All (λ f. is_held store.now f ≡ true) files.now }
     ensures some { result ≡ true → 1 ≤ length manifest.now }
-    ensures long { result ≡ true → length manifest.now ≤ MAX_TEXT }
-    ensures only { result ≡ false → AreHeld store.now files.now → 1 ≤ length manifest.now → length manifest.now ≤ MAX_TEXT → ⊥ }
+    ensures long { result ≡ true → length manifest.now ≤ MANIFEST_TEXT }
+    ensures only { result ≡ false → AreHeld store.now files.now → 1 ≤ length manifest.now
+        → length manifest.now ≤ MANIFEST_TEXT → ⊥ }
 {
-    files.len() <= MAX_FILES as usize
+    files.len() <= MANIFEST_FILES as usize
         && !manifest.is_empty()
-        && manifest.len() <= MAX_TEXT as usize
+        && manifest.len() <= MANIFEST_TEXT as usize
         && is_ascending(files)
         && are_held(store, files)
 }

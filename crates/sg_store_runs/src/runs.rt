@@ -30,17 +30,22 @@ pub fn run<D: Disk>(
     requires disk { (D.view disk.old).size ≡ DATA + store.old.room }
 
     // Whatever the answer, a crash at any moment leaves the contents after some first calls.
-    ensures any_moment { (start : Stage) → IsAt (D.view disk.old) store.old start → LeavesOnly (StandsForSome start calls.now) (D.view disk.old) (D.view disk.new) }
-    ensures ran { OnOk result ((start : Stage) → IsAt (D.view disk.old) store.old start → (end : Stage) × Runs start calls.now end × IsAt (D.view disk.new) store.new end) }
+    ensures any_moment { (start : Stage) → IsAt (D.view disk.old) store.old start
+        → LeavesOnly (StandsForSome start calls.now) (D.view disk.old) (D.view disk.new) }
+    ensures ran { OnOk result ((start : Stage) → IsAt (D.view disk.old) store.old start
+        → (end : Stage) × Runs start calls.now end × IsAt (D.view disk.new) store.new end) }
     ensures size { OnOk result ((D.view disk.new).size ≡ DATA + store.new.room) }
-    ensures journal { OnOk result ((D.view disk.old).told → HasOneJournal (D.view disk.old) → HasOneJournal (D.view disk.new)) }
+    ensures journal { OnOk result ((D.view disk.old).told → HasOneJournal (D.view disk.old)
+        → HasOneJournal (D.view disk.new)) }
     ensures passed { OnOk result (Ran 0 (D.view disk.old) (D.view disk.new)) }
     ensures broke { IsErrOf result Stop.Disk → Broke (D.view disk.old) (D.view disk.new) }
-    ensures unlawful { IsErrOf result Stop.Unlawful → (call : Call) × Contains calls.now call × (IsLawful store.new call → ⊥) }
+    ensures unlawful { IsErrOf result Stop.Unlawful
+        → (call : Call) × Contains calls.now call × (IsLawful store.new call → ⊥) }
     ensures told { IfErr result (λ stop. Tells store.new stop) }
 
     // No opening among the calls finds the disk without a store, or damaged.
-    ensures undamaged { (start : Stage) → IsAt (D.view disk.old) store.old start → IfErr result (λ stop. BlamesDisk stop → ⊥) }
+    ensures undamaged { (start : Stage) → IsAt (D.view disk.old) store.old start
+        → IfErr result (λ stop. BlamesDisk stop → ⊥) }
 {
     for call in calls {
         step(alloc, store, disk, call)?;

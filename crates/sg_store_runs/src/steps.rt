@@ -18,13 +18,18 @@ use std::alloc::Global;
 
 // Begins to stage a file.
 fn begin(store: &mut Store, file: &Listed) -> Result<(), Stop>
-    ensures stepped { OnOk result ((c : List ℕ) (old : Stage) → Shows store.old c old → (new : Stage) × Step old (Call.Begin file.now) new × Shows store.new c new) }
+
+    // After `Ok` the store is a step further.
+    ensures stepped { OnOk result ((c : List ℕ) (old : Stage) → Shows store.old c old
+        → (new : Stage) × Step old (Call.Begin file.now) new × Shows store.new c new) }
     ensures room { store.new.room ≡ store.old.room }
+
+    // Why it is refused, and what that tells.
+    ensures unlawful { IsErrOf result Stop.Unlawful → IsLawful store.old (Call.Begin file.now) → ⊥ }
+    ensures kept { IsErrOf result Stop.Unlawful → store.new ≡ store.old }
     ensures passed { IsErrOf result Stop.Disk → ⊥ }
     ensures undamaged { IfErr result (λ stop. BlamesDisk stop → ⊥) }
-    ensures unlawful { IsErrOf result Stop.Unlawful → IsLawful store.old (Call.Begin file.now) → ⊥ }
     ensures told { IfErr result (λ stop. Tells store.new stop) }
-    ensures kept { IsErrOf result Stop.Unlawful → store.new ≡ store.old }
 {
     if !may_begin(store, file) {
         return Err(Stop::Unlawful);
@@ -35,13 +40,18 @@ fn begin(store: &mut Store, file: &Listed) -> Result<(), Stop>
 
 // Takes the half staged file as held.
 fn seal(store: &mut Store) -> Result<(), Stop>
-    ensures stepped { OnOk result ((c : List ℕ) (old : Stage) → Shows store.old c old → (new : Stage) × Step old Call.Seal new × Shows store.new c new) }
+
+    // After `Ok` the store is a step further.
+    ensures stepped { OnOk result ((c : List ℕ) (old : Stage) → Shows store.old c old
+        → (new : Stage) × Step old Call.Seal new × Shows store.new c new) }
     ensures room { store.new.room ≡ store.old.room }
+
+    // Why it is refused, and what that tells.
+    ensures unlawful { IsErrOf result Stop.Unlawful → IsLawful store.old Call.Seal → ⊥ }
+    ensures kept { IsErrOf result Stop.Unlawful → store.new ≡ store.old }
     ensures passed { IsErrOf result Stop.Disk → ⊥ }
     ensures undamaged { IfErr result (λ stop. BlamesDisk stop → ⊥) }
-    ensures unlawful { IsErrOf result Stop.Unlawful → IsLawful store.old Call.Seal → ⊥ }
     ensures told { IfErr result (λ stop. Tells store.new stop) }
-    ensures kept { IsErrOf result Stop.Unlawful → store.new ≡ store.old }
 {
     if !may_seal(store) {
         return Err(Stop::Unlawful);
@@ -52,7 +62,8 @@ fn seal(store: &mut Store) -> Result<(), Stop>
 
 // Gives up the staged files that aren't among these.
 fn keep(store: &mut Store, files: &[Listed])
-    ensures stepped { (c : List ℕ) (old : Stage) → Shows store.old c old → (new : Stage) × Step old (Call.Keep files.now) new × Shows store.new c new }
+    ensures stepped { (c : List ℕ) (old : Stage) → Shows store.old c old
+        → (new : Stage) × Step old (Call.Keep files.now) new × Shows store.new c new }
     ensures room { store.new.room ≡ store.old.room }
 {
     store.stage_keep(files);
@@ -61,16 +72,28 @@ fn keep(store: &mut Store, files: &[Listed])
 // Brings the next bytes of the half staged file.
 fn bring<D: Disk>(store: &mut Store, disk: &mut D, bytes: &[u8]) -> Result<(), Stop>
     requires disk { (D.view disk.old).size ≡ DATA + store.old.room }
-    ensures any_moment { (old : Stage) → IsAt (D.view disk.old) store.old old → LeavesOnly (StandsForSome old (Call.Bytes bytes.now ∷ [])) (D.view disk.old) (D.view disk.new) }
-    ensures stepped { OnOk result ((old : Stage) → IsAt (D.view disk.old) store.old old → (new : Stage) × Step old (Call.Bytes bytes.now) new × IsAt (D.view disk.new) store.new new) }
+
+    // A crash at any moment leaves the contents before the call or after it.
+    ensures any_moment { (old : Stage) → IsAt (D.view disk.old) store.old old
+        → LeavesOnly (StandsForSome old (Call.Bytes bytes.now ∷ [])) (D.view disk.old)
+        (D.view disk.new) }
+
+    // After `Ok` the store is a step further.
+    ensures stepped { OnOk result ((old : Stage) → IsAt (D.view disk.old) store.old old
+        → (new : Stage) × Step old (Call.Bytes bytes.now) new
+        × IsAt (D.view disk.new) store.new new) }
     ensures size { OnOk result ((D.view disk.new).size ≡ DATA + store.new.room) }
-    ensures journal { OnOk result ((D.view disk.old).told → HasOneJournal (D.view disk.old) → HasOneJournal (D.view disk.new)) }
+    ensures journal { OnOk result ((D.view disk.old).told → HasOneJournal (D.view disk.old)
+        → HasOneJournal (D.view disk.new)) }
     ensures passed { OnOk result (Ran 0 (D.view disk.old) (D.view disk.new)) }
+
+    // Why it is refused, and what that tells.
+    ensures unlawful { IsErrOf result Stop.Unlawful → IsLawful store.old (Call.Bytes bytes.now)
+        → ⊥ }
+    ensures kept { IsErrOf result Stop.Unlawful → store.new ≡ store.old }
     ensures broke { IsErrOf result Stop.Disk → Broke (D.view disk.old) (D.view disk.new) }
     ensures undamaged { IfErr result (λ stop. BlamesDisk stop → ⊥) }
-    ensures unlawful { IsErrOf result Stop.Unlawful → IsLawful store.old (Call.Bytes bytes.now) → ⊥ }
     ensures told { IfErr result (λ stop. Tells store.new stop) }
-    ensures kept { IsErrOf result Stop.Unlawful → store.new ≡ store.old }
 {
     if !may_bring(store, bytes.len()) {
         return Err(Stop::Unlawful);
@@ -87,16 +110,28 @@ fn switch<D: Disk>(
     files: &[Listed],
 ) -> Result<(), Stop>
     requires disk { (D.view disk.old).size ≡ DATA + store.old.room }
-    ensures any_moment { (old : Stage) → IsAt (D.view disk.old) store.old old → LeavesOnly (StandsForSome old (Call.Switch manifest.now files.now ∷ [])) (D.view disk.old) (D.view disk.new) }
-    ensures stepped { OnOk result ((old : Stage) → IsAt (D.view disk.old) store.old old → (new : Stage) × Step old (Call.Switch manifest.now files.now) new × IsAt (D.view disk.new) store.new new) }
+
+    // A crash at any moment leaves the contents before the call or after it.
+    ensures any_moment { (old : Stage) → IsAt (D.view disk.old) store.old old
+        → LeavesOnly (StandsForSome old (Call.Switch manifest.now files.now ∷ [])) (D.view disk.old)
+        (D.view disk.new) }
+
+    // After `Ok` the store is a step further.
+    ensures stepped { OnOk result ((old : Stage) → IsAt (D.view disk.old) store.old old
+        → (new : Stage) × Step old (Call.Switch manifest.now files.now) new
+        × IsAt (D.view disk.new) store.new new) }
     ensures size { OnOk result ((D.view disk.new).size ≡ DATA + store.new.room) }
-    ensures journal { OnOk result ((D.view disk.old).told → HasOneJournal (D.view disk.old) → HasOneJournal (D.view disk.new)) }
+    ensures journal { OnOk result ((D.view disk.old).told → HasOneJournal (D.view disk.old)
+        → HasOneJournal (D.view disk.new)) }
     ensures passed { OnOk result (Ran 0 (D.view disk.old) (D.view disk.new)) }
+
+    // Why it is refused, and what that tells.
+    ensures unlawful { IsErrOf result Stop.Unlawful
+        → IsLawful store.old (Call.Switch manifest.now files.now) → ⊥ }
+    ensures kept { IsErrOf result Stop.Unlawful → store.new ≡ store.old }
     ensures broke { IsErrOf result Stop.Disk → Broke (D.view disk.old) (D.view disk.new) }
     ensures undamaged { IfErr result (λ stop. BlamesDisk stop → ⊥) }
-    ensures unlawful { IsErrOf result Stop.Unlawful → IsLawful store.old (Call.Switch manifest.now files.now) → ⊥ }
     ensures told { IfErr result (λ stop. Tells store.new stop) }
-    ensures kept { IsErrOf result Stop.Unlawful → store.new ≡ store.old }
 {
     if !may_switch(store, manifest, files) {
         return Err(Stop::Unlawful);
@@ -107,16 +142,26 @@ fn switch<D: Disk>(
 
 // Opens the store again, in its place.
 fn open_again<D: Disk>(alloc: Global, store: &mut Store, disk: &mut D) -> Result<(), Stop>
-    ensures any_moment { (old : Stage) → IsAt (D.view disk.old) store.old old → LeavesOnly (StandsForSome old (Call.Open ∷ [])) (D.view disk.old) (D.view disk.new) }
-    ensures stepped { OnOk result ((old : Stage) → IsAt (D.view disk.old) store.old old → (new : Stage) × Step old Call.Open new × IsAt (D.view disk.new) store.new new) }
+
+    // A crash at any moment leaves the contents before the call or after it.
+    ensures any_moment { (old : Stage) → IsAt (D.view disk.old) store.old old
+        → LeavesOnly (StandsForSome old (Call.Open ∷ [])) (D.view disk.old) (D.view disk.new) }
+
+    // After `Ok` the store is a step further.
+    ensures stepped { OnOk result ((old : Stage) → IsAt (D.view disk.old) store.old old
+        → (new : Stage) × Step old Call.Open new × IsAt (D.view disk.new) store.new new) }
     ensures size { OnOk result ((D.view disk.new).size ≡ DATA + store.new.room) }
-    ensures journal { OnOk result ((D.view disk.old).told → HasOneJournal (D.view disk.old) → HasOneJournal (D.view disk.new)) }
+    ensures journal { OnOk result ((D.view disk.old).told → HasOneJournal (D.view disk.old)
+        → HasOneJournal (D.view disk.new)) }
     ensures passed { OnOk result (Ran 0 (D.view disk.old) (D.view disk.new)) }
-    ensures broke { IsErrOf result Stop.Disk → Broke (D.view disk.old) (D.view disk.new) }
-    ensures undamaged { (old : Stage) → IsAt (D.view disk.old) store.old old → IfErr result (λ stop. BlamesDisk stop → ⊥) }
+
+    // Why it is refused, and what that tells.
     ensures unlawful { IsErrOf result Stop.Unlawful → IsLawful store.old Call.Open → ⊥ }
-    ensures told { IfErr result (λ stop. Tells store.new stop) }
     ensures kept { IsErrOf result Stop.Unlawful → store.new ≡ store.old }
+    ensures broke { IsErrOf result Stop.Disk → Broke (D.view disk.old) (D.view disk.new) }
+    ensures undamaged { (old : Stage) → IsAt (D.view disk.old) store.old old
+        → IfErr result (λ stop. BlamesDisk stop → ⊥) }
+    ensures told { IfErr result (λ stop. Tells store.new stop) }
 {
     *store = Store::open(alloc, disk)?;
     Ok(())
@@ -130,16 +175,26 @@ pub fn step<D: Disk>(
     call: &Call,
 ) -> Result<(), Stop>
     requires disk { (D.view disk.old).size ≡ DATA + store.old.room }
-    ensures any_moment { (old : Stage) → IsAt (D.view disk.old) store.old old → LeavesOnly (StandsForSome old (call.now ∷ [])) (D.view disk.old) (D.view disk.new) }
-    ensures stepped { OnOk result ((old : Stage) → IsAt (D.view disk.old) store.old old → (new : Stage) × Step old call.now new × IsAt (D.view disk.new) store.new new) }
+
+    // A crash at any moment leaves the contents before the call or after it.
+    ensures any_moment { (old : Stage) → IsAt (D.view disk.old) store.old old
+        → LeavesOnly (StandsForSome old (call.now ∷ [])) (D.view disk.old) (D.view disk.new) }
+
+    // After `Ok` the store is a step further.
+    ensures stepped { OnOk result ((old : Stage) → IsAt (D.view disk.old) store.old old
+        → (new : Stage) × Step old call.now new × IsAt (D.view disk.new) store.new new) }
     ensures size { OnOk result ((D.view disk.new).size ≡ DATA + store.new.room) }
-    ensures journal { OnOk result ((D.view disk.old).told → HasOneJournal (D.view disk.old) → HasOneJournal (D.view disk.new)) }
+    ensures journal { OnOk result ((D.view disk.old).told → HasOneJournal (D.view disk.old)
+        → HasOneJournal (D.view disk.new)) }
     ensures passed { OnOk result (Ran 0 (D.view disk.old) (D.view disk.new)) }
-    ensures broke { IsErrOf result Stop.Disk → Broke (D.view disk.old) (D.view disk.new) }
-    ensures undamaged { (old : Stage) → IsAt (D.view disk.old) store.old old → IfErr result (λ stop. BlamesDisk stop → ⊥) }
+
+    // Why it is refused, and what that tells.
     ensures unlawful { IsErrOf result Stop.Unlawful → IsLawful store.old call.now → ⊥ }
-    ensures told { IfErr result (λ stop. Tells store.new stop) }
     ensures kept { IsErrOf result Stop.Unlawful → store.new ≡ store.old }
+    ensures broke { IsErrOf result Stop.Disk → Broke (D.view disk.old) (D.view disk.new) }
+    ensures undamaged { (old : Stage) → IsAt (D.view disk.old) store.old old
+        → IfErr result (λ stop. BlamesDisk stop → ⊥) }
+    ensures told { IfErr result (λ stop. Tells store.new stop) }
 {
     match call {
         Call::Begin(file) => begin(store, file),

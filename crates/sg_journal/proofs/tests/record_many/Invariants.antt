@@ -1,5 +1,6 @@
 use Rattle.std.proofs.Common.{◌≤◌}
 use Rattle.sg_journal.proofs.tests.record_many.Given as goal
+use Rattle.sg_disk.specs.declared.places.TheConstants.{DATA}
 
 abbrev pub invariant-loop-i : goal.invariant-loop-i
-invariant-loop-i g l = 6336512 ≤ (g.D.Disk.view l.disk).size
+invariant-loop-i g l = DATA ≤ (g.D.Disk.view l.disk).size

@@ -1,4 +1,3 @@
-use Rattle.sg_disk.specs.declared.places.TheConstants.{DATA}
 use Rattle.sg_placing.proofs.GapLemmas.{gap_found, gap_most}
 use Rattle.sg_placing.proofs.gaps.gap_at.Goals as goal
 

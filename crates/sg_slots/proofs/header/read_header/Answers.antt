@@ -8,6 +8,7 @@ use Rattle.sg_slots.specs.Damage.{header_damage}
 use Rattle.sg_slots.proofs.HeaderLemmas.{header_u32, header_u64, header_gate, header_same}
 use Rattle.sg_slots.proofs.RefusalLemmas.{ended_checked, size_told}
 use Rattle.sg_slots.proofs.header.read_header.Goals as goal
+use Rattle.sg_disk.specs.declared.places.TheConstants.{DATA}
 
 pub returns-then-bytes-ne1-clause-unformatted : goal.returns-then-bytes-ne1-clause-unformatted
 returns-then-bytes-ne1-clause-unformatted g c is = inr (λ told opened.

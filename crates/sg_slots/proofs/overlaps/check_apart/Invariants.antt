@@ -1,5 +1,5 @@
 use Rattle.std.proofs.Common.{◌≡◌, ◌+◌, ◌*◌, [], take, drop}
-use Rattle.sg_disk.specs.declared.places.TheConstants.{TABLE, ENTRY_LEN}
+use Rattle.sg_disk.specs.declared.places.TheConstants.{ENTRY_LEN, TABLE}
 use Rattle.sg_slots.specs.Slots.{slot_place}
 use Rattle.sg_slots.specs.Damage.{overlap_damage}
 use Rattle.sg_slots.proofs.overlaps.check_apart.Given as goal

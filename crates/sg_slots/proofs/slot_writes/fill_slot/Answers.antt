@@ -1,5 +1,5 @@
-use Rattle.std.proofs.Common.{◌+◌, length, arith}
-use Rattle.sg_disk.specs.declared.places.TheConstants.{TABLE, TEXT}
+use Rattle.std.proofs.Common.{◌+◌, ◌-◌, length, arith}
+use Rattle.sg_disk.specs.declared.places.TheConstants.{FIELDS, SLOT_LEN, TABLE, TEXT}
 use Rattle.sg_disk.proofs.Writes.{within_joined, within_same, within_same_failed}
 use Rattle.sg_slots.specs.Slots.{slot_place}
 use Rattle.sg_disk.proofs.Writes.{within_part, within_part_failed}
@@ -12,7 +12,7 @@ returns-in_err-write_at-clause-within g c =
     let v = g.D.Disk.view c.write_at.new.self in
     let a = slot_place c.args.slot + 4 in
     let high = place_high c.args.slot in
-    within_part_failed a 1069052 (c.place-place.result + 4) (length c.args.head.now) u v (omega (arith, c.place-place.ensures)) (omega (arith, c.place-place.ensures, c.requires.head)) c.in_err-write_at.ensures.failed
+    within_part_failed a (SLOT_LEN - FIELDS) (c.place-place.result + 4) (length c.args.head.now) u v (omega (arith, c.place-place.ensures)) (omega (arith, c.place-place.ensures, c.requires.head)) c.in_err-write_at.ensures.failed
 
 pub returns-in_err-write_at-2-clause-within : goal.returns-in_err-write_at-2-clause-within
 returns-in_err-write_at-2-clause-within g c =
@@ -20,10 +20,10 @@ returns-in_err-write_at-2-clause-within g c =
     let v = g.D.Disk.view c.write_at.new.self in
     let a = slot_place c.args.slot + 4 in
     let high = place_high c.args.slot in
-    let first = within_part a 1069052 (c.place-place.result + 4) c.args.head.now u v (omega (arith, c.place-place.ensures)) (omega (arith, c.place-place.ensures, c.requires.head)) (omega (arith, c.place-place.ensures, c.requires.head, c.requires.disk, high)) c.in_ok-write_at.ensures.passed in
+    let first = within_part a (SLOT_LEN - FIELDS) (c.place-place.result + 4) c.args.head.now u v (omega (arith, c.place-place.ensures)) (omega (arith, c.place-place.ensures, c.requires.head)) (omega (arith, c.place-place.ensures, c.requires.head, c.requires.disk, high)) c.in_ok-write_at.ensures.passed in
     let told_1 = c.in_ok-write_at.ensures.passed.told in
     let w = g.D.Disk.view c.write_at-2.new.self in
-    within_joined a 1069052 u v w told_1 first (within_part_failed a 1069052 (c.place-place.result + TABLE) (length c.args.table.now) v w (omega (arith, c.place-place.ensures)) (omega (arith, c.place-place.ensures, c.requires.table)) c.in_err-write_at-2.ensures.failed)
+    within_joined a (SLOT_LEN - FIELDS) u v w told_1 first (within_part_failed a (SLOT_LEN - FIELDS) (c.place-place.result + TABLE) (length c.args.table.now) v w (omega (arith, c.place-place.ensures)) (omega (arith, c.place-place.ensures, c.requires.table)) c.in_err-write_at-2.ensures.failed)
 
 pub returns-in_err-write_at-3-clause-within : goal.returns-in_err-write_at-3-clause-within
 returns-in_err-write_at-3-clause-within g c =
@@ -31,13 +31,13 @@ returns-in_err-write_at-3-clause-within g c =
     let v = g.D.Disk.view c.write_at.new.self in
     let a = slot_place c.args.slot + 4 in
     let high = place_high c.args.slot in
-    let first = within_part a 1069052 (c.place-place.result + 4) c.args.head.now u v (omega (arith, c.place-place.ensures)) (omega (arith, c.place-place.ensures, c.requires.head)) (omega (arith, c.place-place.ensures, c.requires.head, c.requires.disk, high)) c.in_ok-write_at.ensures.passed in
+    let first = within_part a (SLOT_LEN - FIELDS) (c.place-place.result + 4) c.args.head.now u v (omega (arith, c.place-place.ensures)) (omega (arith, c.place-place.ensures, c.requires.head)) (omega (arith, c.place-place.ensures, c.requires.head, c.requires.disk, high)) c.in_ok-write_at.ensures.passed in
     let told_1 = c.in_ok-write_at.ensures.passed.told in
     let w = g.D.Disk.view c.write_at-2.new.self in
-    let second = within_joined a 1069052 u v w told_1 first (within_part a 1069052 (c.place-place.result + TABLE) c.args.table.now v w (omega (arith, c.place-place.ensures)) (omega (arith, c.place-place.ensures, c.requires.table)) (omega (arith, c.place-place.ensures, c.requires.table, c.requires.disk, c.write_at.ensures.size, high)) c.in_ok-write_at-2.ensures.passed) in
+    let second = within_joined a (SLOT_LEN - FIELDS) u v w told_1 first (within_part a (SLOT_LEN - FIELDS) (c.place-place.result + TABLE) c.args.table.now v w (omega (arith, c.place-place.ensures)) (omega (arith, c.place-place.ensures, c.requires.table)) (omega (arith, c.place-place.ensures, c.requires.table, c.requires.disk, c.write_at.ensures.size, high)) c.in_ok-write_at-2.ensures.passed) in
     let told_2 : u.told → w.told = λ t. c.in_ok-write_at-2.ensures.passed.told (told_1 t) in
     let x = g.D.Disk.view c.write_at-3.new.self in
-    within_joined a 1069052 u w x told_2 second (within_part_failed a 1069052 (c.place-place.result + TEXT) (length c.args.text.now) w x (omega (arith, c.place-place.ensures)) (omega (arith, c.place-place.ensures, c.requires.text)) c.in_err-write_at-3.ensures.failed)
+    within_joined a (SLOT_LEN - FIELDS) u w x told_2 second (within_part_failed a (SLOT_LEN - FIELDS) (c.place-place.result + TEXT) (length c.args.text.now) w x (omega (arith, c.place-place.ensures)) (omega (arith, c.place-place.ensures, c.requires.text)) c.in_err-write_at-3.ensures.failed)
 
 pub returns-in_err-sync-clause-within : goal.returns-in_err-sync-clause-within
 returns-in_err-sync-clause-within g c =
@@ -45,16 +45,16 @@ returns-in_err-sync-clause-within g c =
     let v = g.D.Disk.view c.write_at.new.self in
     let a = slot_place c.args.slot + 4 in
     let high = place_high c.args.slot in
-    let first = within_part a 1069052 (c.place-place.result + 4) c.args.head.now u v (omega (arith, c.place-place.ensures)) (omega (arith, c.place-place.ensures, c.requires.head)) (omega (arith, c.place-place.ensures, c.requires.head, c.requires.disk, high)) c.in_ok-write_at.ensures.passed in
+    let first = within_part a (SLOT_LEN - FIELDS) (c.place-place.result + 4) c.args.head.now u v (omega (arith, c.place-place.ensures)) (omega (arith, c.place-place.ensures, c.requires.head)) (omega (arith, c.place-place.ensures, c.requires.head, c.requires.disk, high)) c.in_ok-write_at.ensures.passed in
     let told_1 = c.in_ok-write_at.ensures.passed.told in
     let w = g.D.Disk.view c.write_at-2.new.self in
-    let second = within_joined a 1069052 u v w told_1 first (within_part a 1069052 (c.place-place.result + TABLE) c.args.table.now v w (omega (arith, c.place-place.ensures)) (omega (arith, c.place-place.ensures, c.requires.table)) (omega (arith, c.place-place.ensures, c.requires.table, c.requires.disk, c.write_at.ensures.size, high)) c.in_ok-write_at-2.ensures.passed) in
+    let second = within_joined a (SLOT_LEN - FIELDS) u v w told_1 first (within_part a (SLOT_LEN - FIELDS) (c.place-place.result + TABLE) c.args.table.now v w (omega (arith, c.place-place.ensures)) (omega (arith, c.place-place.ensures, c.requires.table)) (omega (arith, c.place-place.ensures, c.requires.table, c.requires.disk, c.write_at.ensures.size, high)) c.in_ok-write_at-2.ensures.passed) in
     let told_2 : u.told → w.told = λ t. c.in_ok-write_at-2.ensures.passed.told (told_1 t) in
     let x = g.D.Disk.view c.write_at-3.new.self in
-    let third = within_joined a 1069052 u w x told_2 second (within_part a 1069052 (c.place-place.result + TEXT) c.args.text.now w x (omega (arith, c.place-place.ensures)) (omega (arith, c.place-place.ensures, c.requires.text)) (omega (arith, c.place-place.ensures, c.requires.text, c.requires.disk, c.write_at.ensures.size, c.write_at-2.ensures.size, high)) c.in_ok-write_at-3.ensures.passed) in
+    let third = within_joined a (SLOT_LEN - FIELDS) u w x told_2 second (within_part a (SLOT_LEN - FIELDS) (c.place-place.result + TEXT) c.args.text.now w x (omega (arith, c.place-place.ensures)) (omega (arith, c.place-place.ensures, c.requires.text)) (omega (arith, c.place-place.ensures, c.requires.text, c.requires.disk, c.write_at.ensures.size, c.write_at-2.ensures.size, high)) c.in_ok-write_at-3.ensures.passed) in
     let told_3 : u.told → x.told = λ t. c.in_ok-write_at-3.ensures.passed.told (told_2 t) in
     let y = g.D.Disk.view c.sync.new.self in
-    within_joined a 1069052 u x y told_3 third (within_same_failed a 1069052 x y c.in_err-sync.ensures.failed)
+    within_joined a (SLOT_LEN - FIELDS) u x y told_3 third (within_same_failed a (SLOT_LEN - FIELDS) x y c.in_err-sync.ensures.failed)
 
 pub returns-clause-within : goal.returns-clause-within
 returns-clause-within g c =
@@ -62,13 +62,13 @@ returns-clause-within g c =
     let v = g.D.Disk.view c.write_at.new.self in
     let a = slot_place c.args.slot + 4 in
     let high = place_high c.args.slot in
-    let first = within_part a 1069052 (c.place-place.result + 4) c.args.head.now u v (omega (arith, c.place-place.ensures)) (omega (arith, c.place-place.ensures, c.requires.head)) (omega (arith, c.place-place.ensures, c.requires.head, c.requires.disk, high)) c.in_ok-write_at.ensures.passed in
+    let first = within_part a (SLOT_LEN - FIELDS) (c.place-place.result + 4) c.args.head.now u v (omega (arith, c.place-place.ensures)) (omega (arith, c.place-place.ensures, c.requires.head)) (omega (arith, c.place-place.ensures, c.requires.head, c.requires.disk, high)) c.in_ok-write_at.ensures.passed in
     let told_1 = c.in_ok-write_at.ensures.passed.told in
     let w = g.D.Disk.view c.write_at-2.new.self in
-    let second = within_joined a 1069052 u v w told_1 first (within_part a 1069052 (c.place-place.result + TABLE) c.args.table.now v w (omega (arith, c.place-place.ensures)) (omega (arith, c.place-place.ensures, c.requires.table)) (omega (arith, c.place-place.ensures, c.requires.table, c.requires.disk, c.write_at.ensures.size, high)) c.in_ok-write_at-2.ensures.passed) in
+    let second = within_joined a (SLOT_LEN - FIELDS) u v w told_1 first (within_part a (SLOT_LEN - FIELDS) (c.place-place.result + TABLE) c.args.table.now v w (omega (arith, c.place-place.ensures)) (omega (arith, c.place-place.ensures, c.requires.table)) (omega (arith, c.place-place.ensures, c.requires.table, c.requires.disk, c.write_at.ensures.size, high)) c.in_ok-write_at-2.ensures.passed) in
     let told_2 : u.told → w.told = λ t. c.in_ok-write_at-2.ensures.passed.told (told_1 t) in
     let x = g.D.Disk.view c.write_at-3.new.self in
-    let third = within_joined a 1069052 u w x told_2 second (within_part a 1069052 (c.place-place.result + TEXT) c.args.text.now w x (omega (arith, c.place-place.ensures)) (omega (arith, c.place-place.ensures, c.requires.text)) (omega (arith, c.place-place.ensures, c.requires.text, c.requires.disk, c.write_at.ensures.size, c.write_at-2.ensures.size, high)) c.in_ok-write_at-3.ensures.passed) in
+    let third = within_joined a (SLOT_LEN - FIELDS) u w x told_2 second (within_part a (SLOT_LEN - FIELDS) (c.place-place.result + TEXT) c.args.text.now w x (omega (arith, c.place-place.ensures)) (omega (arith, c.place-place.ensures, c.requires.text)) (omega (arith, c.place-place.ensures, c.requires.text, c.requires.disk, c.write_at.ensures.size, c.write_at-2.ensures.size, high)) c.in_ok-write_at-3.ensures.passed) in
     let told_3 : u.told → x.told = λ t. c.in_ok-write_at-3.ensures.passed.told (told_2 t) in
     let y = g.D.Disk.view c.sync.new.self in
-    within_joined a 1069052 u x y told_3 third (within_same a 1069052 x y c.in_ok-sync.ensures.passed)
+    within_joined a (SLOT_LEN - FIELDS) u x y told_3 third (within_same a (SLOT_LEN - FIELDS) x y c.in_ok-sync.ensures.passed)

@@ -3,7 +3,7 @@ use Rattle.sg_disk.specs.View.{Written, Torn}
 use Rattle.sg_disk.specs.Runs.{Broke}
 use Rattle.sg_disk.proofs.Moments.{ran_one, ran_broke}
 use Rattle.sg_store.proofs.FreshLemmas.{on_err}
-use Rattle.sg_disk.specs.declared.places.TheConstants.{JOURNAL, JOURNAL_LEN, SLOT_ZERO, SLOT_ONE}
+use Rattle.sg_disk.specs.declared.places.TheConstants.{JOURNAL, JOURNAL_LEN, SLOT_ONE, SLOT_ZERO}
 use Rattle.sg_store.proofs.FreshLemmas.{zeros_kept, slots_cleared}
 use Rattle.sg_store.proofs.fresh.clear.Goals as goal
 

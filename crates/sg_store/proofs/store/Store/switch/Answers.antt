@@ -1,9 +1,9 @@
-use Rattle.std.proofs.Common.{◌≡◌, inl, inr, ℕ, ◌+◌, ◌≤◌, ◌==◌, not, All, Bool, false, List, [], ◌∷◌, length, ◌∙◌, ap, subst, sym, arith, if◌then◌else◌}
+use Rattle.std.proofs.Common.{◌≡◌, inl, inr, ℕ, ◌+◌, ◌≤◌, ◌==◌, not, All, Bool, false, List, [], ◌∷◌, length, ◌∙◌, ◌-◌, ◌*◌, ap, subst, sym, arith, if◌then◌else◌}
 use Rattle.sg_disk.specs.View.{put, Only}
 use Rattle.sg_disk.specs.Runs.{LeavesOnly, Within}
 use Rattle.sg_disk.specs.Contents.{switched}
 use Rattle.sg_disk.specs.StandsFor.{StandsFor, Either, StandsForOne, Two}
-use Rattle.sg_disk.specs.declared.places.TheConstants.{SLOT_ZERO, TABLE, TEXT, JOURNAL, JOURNAL_LEN}
+use Rattle.sg_disk.specs.declared.places.TheConstants.{FIELDS, JOURNAL, JOURNAL_LEN, SLOT_LEN, SLOT_ZERO, TABLE, TABLE_LEN, TEXT}
 use Rattle.sg_disk.proofs.Moments.{weaker, joined}
 use Rattle.sg_disk.proofs.Writes.{within_wider, within_joined, one_kept}
 use Rattle.sg_disk.proofs.Standing.{between_after, either_one}
@@ -49,7 +49,7 @@ returns-in_err-fill_slot-clause-any_moment g c p ready =
     let w = g.D.Disk.view c.fill_slot.new.disk in
     let told_v = c.in_ok-close_gate.ensures.ran.told ready.settled.told in
     let closed = closed_after u v s p ready told_v (c.in_ok-close_gate.ensures.durable ready.settled.told) (c.in_ok-close_gate.ensures.written ready.settled.told ∙ ap (λ (k : ℕ). if c.gather.new.self.spare_open then put u.bytes k (0 ∷ []) else u.bytes) at ∙ ap (λ (b : Bool). if b then put u.bytes (slot_place s.spare) (0 ∷ []) else u.bytes) c.gather.ensures.snapshot.spare_open) close one in
-    let filling_in : Within (slot_place s.spare + 4) 1069052 v w = subst (λ (x : Slot). Within (slot_place x + 4) 1069052 v w) c.gather.ensures.snapshot.spare c.fill_slot.ensures.within in
+    let filling_in : Within (slot_place s.spare + FIELDS) (SLOT_LEN - FIELDS) v w = subst (λ (x : Slot). Within (slot_place x + FIELDS) (SLOT_LEN - FIELDS) v w) c.gather.ensures.snapshot.spare c.fill_slot.ensures.within in
     let two = filling v w p s.spare closed filling_in in
     joined u v w (Either p q) (weaker u v (StandsFor p) (Either p q) (λ (d : List ℕ) is. inl is) one) (weaker v w (StandsFor p) (Either p q) (λ (d : List ℕ) is. inl is) two)
 
@@ -69,14 +69,14 @@ returns-in_err-write_synced-clause-any_moment g c p ready =
     let w = g.D.Disk.view c.fill_slot.new.disk in
     let told_v = c.in_ok-close_gate.ensures.ran.told ready.settled.told in
     let closed = closed_after u v s p ready told_v (c.in_ok-close_gate.ensures.durable ready.settled.told) (c.in_ok-close_gate.ensures.written ready.settled.told ∙ ap (λ (k : ℕ). if c.gather.new.self.spare_open then put u.bytes k (0 ∷ []) else u.bytes) at ∙ ap (λ (b : Bool). if b then put u.bytes (slot_place s.spare) (0 ∷ []) else u.bytes) c.gather.ensures.snapshot.spare_open) close one in
-    let filling_in : Within (slot_place s.spare + 4) 1069052 v w = subst (λ (x : Slot). Within (slot_place x + 4) 1069052 v w) c.gather.ensures.snapshot.spare c.fill_slot.ensures.within in
+    let filling_in : Within (slot_place s.spare + FIELDS) (SLOT_LEN - FIELDS) v w = subst (λ (x : Slot). Within (slot_place x + FIELDS) (SLOT_LEN - FIELDS) v w) c.gather.ensures.snapshot.spare c.fill_slot.ensures.within in
     let two = filling v w p s.spare closed filling_in in
     let x = g.D.Disk.view c.write_synced.new.disk in
     let told_w = c.in_ok-fill_slot.ensures.ran.told told_v in
     let head_is = c.head_fields_of-head.ensures ∙ ap (λ (n : ℕ). head_fields (n + 1) (length c.args.manifest.now) (length c.args.files.now)) c.gather.ensures.snapshot.number in
-    let written = c.in_ok-fill_slot.ensures.written told_v ∙ ap (λ (y : Slot). put (put (put v.bytes (slot_place y + 4) c.head_fields_of-head.result) (slot_place y + TABLE) c.as_slice.result.now) (slot_place y + TEXT) c.args.manifest.now) c.gather.ensures.snapshot.spare in
+    let written = c.in_ok-fill_slot.ensures.written told_v ∙ ap (λ (y : Slot). put (put (put v.bytes (slot_place y + FIELDS) c.head_fields_of-head.result) (slot_place y + TABLE) c.as_slice.result.now) (slot_place y + TEXT) c.args.manifest.now) c.gather.ensures.snapshot.spare in
     let table_is = c.as_slice.ensures.value ∙ c.gather.ensures.table in
-    let fits : length c.as_slice.result.now ≤ 16384 = omega (arith, ap length c.as_slice.ensures.value, c.gather.ensures.len) in
+    let fits : length c.as_slice.result.now ≤ TABLE_LEN = omega (arith, ap length c.as_slice.ensures.value, c.gather.ensures.len) in
     let filled = filled_by u v w s p c.args.manifest.now c.args.files.now c.head_fields_of-head.result c.as_slice.result.now ready placed asks closed close told_w (c.in_ok-fill_slot.ensures.stable told_v) filling_in two written head_is table_is fits in
     let at_2 : c.place-2.result ≡ slot_place s.spare = c.place-2.ensures ∙ ap slot_place c.gather.ensures.snapshot.spare in
     let open_in : Within (slot_place s.spare) 1 w x = subst (λ (k : ℕ). Within k 1 w x) at_2 c.write_synced.ensures.within in
@@ -99,14 +99,14 @@ returns-clause-any_moment g c p ready =
     let w = g.D.Disk.view c.fill_slot.new.disk in
     let told_v = c.in_ok-close_gate.ensures.ran.told ready.settled.told in
     let closed = closed_after u v s p ready told_v (c.in_ok-close_gate.ensures.durable ready.settled.told) (c.in_ok-close_gate.ensures.written ready.settled.told ∙ ap (λ (k : ℕ). if c.gather.new.self.spare_open then put u.bytes k (0 ∷ []) else u.bytes) at ∙ ap (λ (b : Bool). if b then put u.bytes (slot_place s.spare) (0 ∷ []) else u.bytes) c.gather.ensures.snapshot.spare_open) close one in
-    let filling_in : Within (slot_place s.spare + 4) 1069052 v w = subst (λ (x : Slot). Within (slot_place x + 4) 1069052 v w) c.gather.ensures.snapshot.spare c.fill_slot.ensures.within in
+    let filling_in : Within (slot_place s.spare + FIELDS) (SLOT_LEN - FIELDS) v w = subst (λ (x : Slot). Within (slot_place x + FIELDS) (SLOT_LEN - FIELDS) v w) c.gather.ensures.snapshot.spare c.fill_slot.ensures.within in
     let two = filling v w p s.spare closed filling_in in
     let x = g.D.Disk.view c.write_synced.new.disk in
     let told_w = c.in_ok-fill_slot.ensures.ran.told told_v in
     let head_is = c.head_fields_of-head.ensures ∙ ap (λ (n : ℕ). head_fields (n + 1) (length c.args.manifest.now) (length c.args.files.now)) c.gather.ensures.snapshot.number in
-    let written = c.in_ok-fill_slot.ensures.written told_v ∙ ap (λ (y : Slot). put (put (put v.bytes (slot_place y + 4) c.head_fields_of-head.result) (slot_place y + TABLE) c.as_slice.result.now) (slot_place y + TEXT) c.args.manifest.now) c.gather.ensures.snapshot.spare in
+    let written = c.in_ok-fill_slot.ensures.written told_v ∙ ap (λ (y : Slot). put (put (put v.bytes (slot_place y + FIELDS) c.head_fields_of-head.result) (slot_place y + TABLE) c.as_slice.result.now) (slot_place y + TEXT) c.args.manifest.now) c.gather.ensures.snapshot.spare in
     let table_is = c.as_slice.ensures.value ∙ c.gather.ensures.table in
-    let fits : length c.as_slice.result.now ≤ 16384 = omega (arith, ap length c.as_slice.ensures.value, c.gather.ensures.len) in
+    let fits : length c.as_slice.result.now ≤ TABLE_LEN = omega (arith, ap length c.as_slice.ensures.value, c.gather.ensures.len) in
     let filled = filled_by u v w s p c.args.manifest.now c.args.files.now c.head_fields_of-head.result c.as_slice.result.now ready placed asks closed close told_w (c.in_ok-fill_slot.ensures.stable told_v) filling_in two written head_is table_is fits in
     let at_2 : c.place-2.result ≡ slot_place s.spare = c.place-2.ensures ∙ ap slot_place c.gather.ensures.snapshot.spare in
     let open_in : Within (slot_place s.spare) 1 w x = subst (λ (k : ℕ). Within k 1 w x) at_2 c.write_synced.ensures.within in
@@ -122,7 +122,7 @@ returns-in_err-close_gate-clause-within g c =
     let close : Within (slot_place s.spare) 1 u v = subst (λ (k : ℕ). Within k 1 u v) at c.close_gate.ensures.within in
     let high = place_high s.spare in
     let low = place_low s.spare in
-    within_wider (slot_place s.spare) 1 SLOT_ZERO 2138112 u v (omega (arith, low)) (omega (arith, high)) close
+    within_wider (slot_place s.spare) 1 SLOT_ZERO (2 * SLOT_LEN) u v (omega (arith, low)) (omega (arith, high)) close
 
 pub returns-in_err-fill_slot-clause-within : goal.returns-in_err-fill_slot-clause-within
 returns-in_err-fill_slot-clause-within g c =
@@ -133,10 +133,10 @@ returns-in_err-fill_slot-clause-within g c =
     let close : Within (slot_place s.spare) 1 u v = subst (λ (k : ℕ). Within k 1 u v) at c.close_gate.ensures.within in
     let high = place_high s.spare in
     let low = place_low s.spare in
-    let first = within_wider (slot_place s.spare) 1 SLOT_ZERO 2138112 u v (omega (arith, low)) (omega (arith, high)) close in
+    let first = within_wider (slot_place s.spare) 1 SLOT_ZERO (2 * SLOT_LEN) u v (omega (arith, low)) (omega (arith, high)) close in
     let w = g.D.Disk.view c.fill_slot.new.disk in
-    let filling_in : Within (slot_place s.spare + 4) 1069052 v w = subst (λ (x : Slot). Within (slot_place x + 4) 1069052 v w) c.gather.ensures.snapshot.spare c.fill_slot.ensures.within in
-    let second = within_joined SLOT_ZERO 2138112 u v w c.in_ok-close_gate.ensures.ran.told first (within_wider (slot_place s.spare + 4) 1069052 SLOT_ZERO 2138112 v w (omega (arith, low)) (omega (arith, high)) filling_in) in
+    let filling_in : Within (slot_place s.spare + FIELDS) (SLOT_LEN - FIELDS) v w = subst (λ (x : Slot). Within (slot_place x + FIELDS) (SLOT_LEN - FIELDS) v w) c.gather.ensures.snapshot.spare c.fill_slot.ensures.within in
+    let second = within_joined SLOT_ZERO (2 * SLOT_LEN) u v w c.in_ok-close_gate.ensures.ran.told first (within_wider (slot_place s.spare + FIELDS) (SLOT_LEN - FIELDS) SLOT_ZERO (2 * SLOT_LEN) v w (omega (arith, low)) (omega (arith, high)) filling_in) in
     second
 
 pub returns-in_err-write_synced-clause-within : goal.returns-in_err-write_synced-clause-within
@@ -148,14 +148,14 @@ returns-in_err-write_synced-clause-within g c =
     let close : Within (slot_place s.spare) 1 u v = subst (λ (k : ℕ). Within k 1 u v) at c.close_gate.ensures.within in
     let high = place_high s.spare in
     let low = place_low s.spare in
-    let first = within_wider (slot_place s.spare) 1 SLOT_ZERO 2138112 u v (omega (arith, low)) (omega (arith, high)) close in
+    let first = within_wider (slot_place s.spare) 1 SLOT_ZERO (2 * SLOT_LEN) u v (omega (arith, low)) (omega (arith, high)) close in
     let w = g.D.Disk.view c.fill_slot.new.disk in
-    let filling_in : Within (slot_place s.spare + 4) 1069052 v w = subst (λ (x : Slot). Within (slot_place x + 4) 1069052 v w) c.gather.ensures.snapshot.spare c.fill_slot.ensures.within in
-    let second = within_joined SLOT_ZERO 2138112 u v w c.in_ok-close_gate.ensures.ran.told first (within_wider (slot_place s.spare + 4) 1069052 SLOT_ZERO 2138112 v w (omega (arith, low)) (omega (arith, high)) filling_in) in
+    let filling_in : Within (slot_place s.spare + FIELDS) (SLOT_LEN - FIELDS) v w = subst (λ (x : Slot). Within (slot_place x + FIELDS) (SLOT_LEN - FIELDS) v w) c.gather.ensures.snapshot.spare c.fill_slot.ensures.within in
+    let second = within_joined SLOT_ZERO (2 * SLOT_LEN) u v w c.in_ok-close_gate.ensures.ran.told first (within_wider (slot_place s.spare + FIELDS) (SLOT_LEN - FIELDS) SLOT_ZERO (2 * SLOT_LEN) v w (omega (arith, low)) (omega (arith, high)) filling_in) in
     let x = g.D.Disk.view c.write_synced.new.disk in
     let at_2 : c.place-2.result ≡ slot_place s.spare = c.place-2.ensures ∙ ap slot_place c.gather.ensures.snapshot.spare in
     let open_in : Within (slot_place s.spare) 1 w x = subst (λ (k : ℕ). Within k 1 w x) at_2 c.write_synced.ensures.within in
-    within_joined SLOT_ZERO 2138112 u w x (λ told. c.in_ok-fill_slot.ensures.ran.told (c.in_ok-close_gate.ensures.ran.told told)) second (within_wider (slot_place s.spare) 1 SLOT_ZERO 2138112 w x (omega (arith, low)) (omega (arith, high)) open_in)
+    within_joined SLOT_ZERO (2 * SLOT_LEN) u w x (λ told. c.in_ok-fill_slot.ensures.ran.told (c.in_ok-close_gate.ensures.ran.told told)) second (within_wider (slot_place s.spare) 1 SLOT_ZERO (2 * SLOT_LEN) w x (omega (arith, low)) (omega (arith, high)) open_in)
 
 pub returns-clause-within : goal.returns-clause-within
 returns-clause-within g c =
@@ -166,14 +166,14 @@ returns-clause-within g c =
     let close : Within (slot_place s.spare) 1 u v = subst (λ (k : ℕ). Within k 1 u v) at c.close_gate.ensures.within in
     let high = place_high s.spare in
     let low = place_low s.spare in
-    let first = within_wider (slot_place s.spare) 1 SLOT_ZERO 2138112 u v (omega (arith, low)) (omega (arith, high)) close in
+    let first = within_wider (slot_place s.spare) 1 SLOT_ZERO (2 * SLOT_LEN) u v (omega (arith, low)) (omega (arith, high)) close in
     let w = g.D.Disk.view c.fill_slot.new.disk in
-    let filling_in : Within (slot_place s.spare + 4) 1069052 v w = subst (λ (x : Slot). Within (slot_place x + 4) 1069052 v w) c.gather.ensures.snapshot.spare c.fill_slot.ensures.within in
-    let second = within_joined SLOT_ZERO 2138112 u v w c.in_ok-close_gate.ensures.ran.told first (within_wider (slot_place s.spare + 4) 1069052 SLOT_ZERO 2138112 v w (omega (arith, low)) (omega (arith, high)) filling_in) in
+    let filling_in : Within (slot_place s.spare + FIELDS) (SLOT_LEN - FIELDS) v w = subst (λ (x : Slot). Within (slot_place x + FIELDS) (SLOT_LEN - FIELDS) v w) c.gather.ensures.snapshot.spare c.fill_slot.ensures.within in
+    let second = within_joined SLOT_ZERO (2 * SLOT_LEN) u v w c.in_ok-close_gate.ensures.ran.told first (within_wider (slot_place s.spare + FIELDS) (SLOT_LEN - FIELDS) SLOT_ZERO (2 * SLOT_LEN) v w (omega (arith, low)) (omega (arith, high)) filling_in) in
     let x = g.D.Disk.view c.write_synced.new.disk in
     let at_2 : c.place-2.result ≡ slot_place s.spare = c.place-2.ensures ∙ ap slot_place c.gather.ensures.snapshot.spare in
     let open_in : Within (slot_place s.spare) 1 w x = subst (λ (k : ℕ). Within k 1 w x) at_2 c.write_synced.ensures.within in
-    within_joined SLOT_ZERO 2138112 u w x (λ told. c.in_ok-fill_slot.ensures.ran.told (c.in_ok-close_gate.ensures.ran.told told)) second (within_wider (slot_place s.spare) 1 SLOT_ZERO 2138112 w x (omega (arith, low)) (omega (arith, high)) open_in)
+    within_joined SLOT_ZERO (2 * SLOT_LEN) u w x (λ told. c.in_ok-fill_slot.ensures.ran.told (c.in_ok-close_gate.ensures.ran.told told)) second (within_wider (slot_place s.spare) 1 SLOT_ZERO (2 * SLOT_LEN) w x (omega (arith, low)) (omega (arith, high)) open_in)
 
 pub take_over-requires-clause-placed : goal.take_over-requires-clause-placed
 take_over-requires-clause-placed g c =
@@ -198,14 +198,14 @@ returns-clause-ready g c p ready =
     let w = g.D.Disk.view c.fill_slot.new.disk in
     let told_v = c.in_ok-close_gate.ensures.ran.told ready.settled.told in
     let closed = closed_after u v s p ready told_v (c.in_ok-close_gate.ensures.durable ready.settled.told) (c.in_ok-close_gate.ensures.written ready.settled.told ∙ ap (λ (k : ℕ). if c.gather.new.self.spare_open then put u.bytes k (0 ∷ []) else u.bytes) at ∙ ap (λ (b : Bool). if b then put u.bytes (slot_place s.spare) (0 ∷ []) else u.bytes) c.gather.ensures.snapshot.spare_open) close one in
-    let filling_in : Within (slot_place s.spare + 4) 1069052 v w = subst (λ (x : Slot). Within (slot_place x + 4) 1069052 v w) c.gather.ensures.snapshot.spare c.fill_slot.ensures.within in
+    let filling_in : Within (slot_place s.spare + FIELDS) (SLOT_LEN - FIELDS) v w = subst (λ (x : Slot). Within (slot_place x + FIELDS) (SLOT_LEN - FIELDS) v w) c.gather.ensures.snapshot.spare c.fill_slot.ensures.within in
     let two = filling v w p s.spare closed filling_in in
     let x = g.D.Disk.view c.write_synced.new.disk in
     let told_w = c.in_ok-fill_slot.ensures.ran.told told_v in
     let head_is = c.head_fields_of-head.ensures ∙ ap (λ (n : ℕ). head_fields (n + 1) (length c.args.manifest.now) (length c.args.files.now)) c.gather.ensures.snapshot.number in
-    let written = c.in_ok-fill_slot.ensures.written told_v ∙ ap (λ (y : Slot). put (put (put v.bytes (slot_place y + 4) c.head_fields_of-head.result) (slot_place y + TABLE) c.as_slice.result.now) (slot_place y + TEXT) c.args.manifest.now) c.gather.ensures.snapshot.spare in
+    let written = c.in_ok-fill_slot.ensures.written told_v ∙ ap (λ (y : Slot). put (put (put v.bytes (slot_place y + FIELDS) c.head_fields_of-head.result) (slot_place y + TABLE) c.as_slice.result.now) (slot_place y + TEXT) c.args.manifest.now) c.gather.ensures.snapshot.spare in
     let table_is = c.as_slice.ensures.value ∙ c.gather.ensures.table in
-    let fits : length c.as_slice.result.now ≤ 16384 = omega (arith, ap length c.as_slice.ensures.value, c.gather.ensures.len) in
+    let fits : length c.as_slice.result.now ≤ TABLE_LEN = omega (arith, ap length c.as_slice.ensures.value, c.gather.ensures.len) in
     let filled = filled_by u v w s p c.args.manifest.now c.args.files.now c.head_fields_of-head.result c.as_slice.result.now ready placed asks closed close told_w (c.in_ok-fill_slot.ensures.stable told_v) filling_in two written head_is table_is fits in
     let at_2 : c.place-2.result ≡ slot_place s.spare = c.place-2.ensures ∙ ap slot_place c.gather.ensures.snapshot.spare in
     let open_in : Within (slot_place s.spare) 1 w x = subst (λ (k : ℕ). Within k 1 w x) at_2 c.write_synced.ensures.within in
@@ -261,7 +261,7 @@ returns-in_err-fill_slot-clause-between g c is p ready =
     let w = g.D.Disk.view c.fill_slot.new.disk in
     let told_v = c.in_ok-close_gate.ensures.ran.told ready.settled.told in
     let closed = closed_after u v s p ready told_v (c.in_ok-close_gate.ensures.durable ready.settled.told) (c.in_ok-close_gate.ensures.written ready.settled.told ∙ ap (λ (k : ℕ). if c.gather.new.self.spare_open then put u.bytes k (0 ∷ []) else u.bytes) at ∙ ap (λ (b : Bool). if b then put u.bytes (slot_place s.spare) (0 ∷ []) else u.bytes) c.gather.ensures.snapshot.spare_open) close one in
-    let filling_in : Within (slot_place s.spare + 4) 1069052 v w = subst (λ (x : Slot). Within (slot_place x + 4) 1069052 v w) c.gather.ensures.snapshot.spare c.fill_slot.ensures.within in
+    let filling_in : Within (slot_place s.spare + FIELDS) (SLOT_LEN - FIELDS) v w = subst (λ (x : Slot). Within (slot_place x + FIELDS) (SLOT_LEN - FIELDS) v w) c.gather.ensures.snapshot.spare c.fill_slot.ensures.within in
     let two = filling v w p s.spare closed filling_in in
     between_after u w (Two p q) ready.settled.told (weaker u w (Either p q) (StandsForOne (Two p q)) (either_one p q) (joined u v w (Either p q) (weaker u v (StandsFor p) (Either p q) (λ (d : List ℕ) is. inl is) one) (weaker v w (StandsFor p) (Either p q) (λ (d : List ℕ) is. inl is) two))) (λ told. c.in_err-fill_slot.ensures.broke.told told_v)
 
@@ -281,14 +281,14 @@ returns-in_err-write_synced-clause-between g c is p ready =
     let w = g.D.Disk.view c.fill_slot.new.disk in
     let told_v = c.in_ok-close_gate.ensures.ran.told ready.settled.told in
     let closed = closed_after u v s p ready told_v (c.in_ok-close_gate.ensures.durable ready.settled.told) (c.in_ok-close_gate.ensures.written ready.settled.told ∙ ap (λ (k : ℕ). if c.gather.new.self.spare_open then put u.bytes k (0 ∷ []) else u.bytes) at ∙ ap (λ (b : Bool). if b then put u.bytes (slot_place s.spare) (0 ∷ []) else u.bytes) c.gather.ensures.snapshot.spare_open) close one in
-    let filling_in : Within (slot_place s.spare + 4) 1069052 v w = subst (λ (x : Slot). Within (slot_place x + 4) 1069052 v w) c.gather.ensures.snapshot.spare c.fill_slot.ensures.within in
+    let filling_in : Within (slot_place s.spare + FIELDS) (SLOT_LEN - FIELDS) v w = subst (λ (x : Slot). Within (slot_place x + FIELDS) (SLOT_LEN - FIELDS) v w) c.gather.ensures.snapshot.spare c.fill_slot.ensures.within in
     let two = filling v w p s.spare closed filling_in in
     let x = g.D.Disk.view c.write_synced.new.disk in
     let told_w = c.in_ok-fill_slot.ensures.ran.told told_v in
     let head_is = c.head_fields_of-head.ensures ∙ ap (λ (n : ℕ). head_fields (n + 1) (length c.args.manifest.now) (length c.args.files.now)) c.gather.ensures.snapshot.number in
-    let written = c.in_ok-fill_slot.ensures.written told_v ∙ ap (λ (y : Slot). put (put (put v.bytes (slot_place y + 4) c.head_fields_of-head.result) (slot_place y + TABLE) c.as_slice.result.now) (slot_place y + TEXT) c.args.manifest.now) c.gather.ensures.snapshot.spare in
+    let written = c.in_ok-fill_slot.ensures.written told_v ∙ ap (λ (y : Slot). put (put (put v.bytes (slot_place y + FIELDS) c.head_fields_of-head.result) (slot_place y + TABLE) c.as_slice.result.now) (slot_place y + TEXT) c.args.manifest.now) c.gather.ensures.snapshot.spare in
     let table_is = c.as_slice.ensures.value ∙ c.gather.ensures.table in
-    let fits : length c.as_slice.result.now ≤ 16384 = omega (arith, ap length c.as_slice.ensures.value, c.gather.ensures.len) in
+    let fits : length c.as_slice.result.now ≤ TABLE_LEN = omega (arith, ap length c.as_slice.ensures.value, c.gather.ensures.len) in
     let filled = filled_by u v w s p c.args.manifest.now c.args.files.now c.head_fields_of-head.result c.as_slice.result.now ready placed asks closed close told_w (c.in_ok-fill_slot.ensures.stable told_v) filling_in two written head_is table_is fits in
     let at_2 : c.place-2.result ≡ slot_place s.spare = c.place-2.ensures ∙ ap slot_place c.gather.ensures.snapshot.spare in
     let open_in : Within (slot_place s.spare) 1 w x = subst (λ (k : ℕ). Within k 1 w x) at_2 c.write_synced.ensures.within in
@@ -304,7 +304,7 @@ returns-in_err-close_gate-clause-journal g c told one =
     let close : Within (slot_place s.spare) 1 u v = subst (λ (k : ℕ). Within k 1 u v) at c.close_gate.ensures.within in
     let high = place_high s.spare in
     let low = place_low s.spare in
-    one_kept SLOT_ZERO 2138112 JOURNAL JOURNAL_LEN u v told (inr (omega arith)) one (within_wider (slot_place s.spare) 1 SLOT_ZERO 2138112 u v (omega (arith, low)) (omega (arith, high)) close)
+    one_kept SLOT_ZERO (2 * SLOT_LEN) JOURNAL JOURNAL_LEN u v told (inr (omega arith)) one (within_wider (slot_place s.spare) 1 SLOT_ZERO (2 * SLOT_LEN) u v (omega (arith, low)) (omega (arith, high)) close)
 
 pub returns-in_err-fill_slot-clause-journal : goal.returns-in_err-fill_slot-clause-journal
 returns-in_err-fill_slot-clause-journal g c told one =
@@ -315,11 +315,11 @@ returns-in_err-fill_slot-clause-journal g c told one =
     let close : Within (slot_place s.spare) 1 u v = subst (λ (k : ℕ). Within k 1 u v) at c.close_gate.ensures.within in
     let high = place_high s.spare in
     let low = place_low s.spare in
-    let first = within_wider (slot_place s.spare) 1 SLOT_ZERO 2138112 u v (omega (arith, low)) (omega (arith, high)) close in
+    let first = within_wider (slot_place s.spare) 1 SLOT_ZERO (2 * SLOT_LEN) u v (omega (arith, low)) (omega (arith, high)) close in
     let w = g.D.Disk.view c.fill_slot.new.disk in
-    let filling_in : Within (slot_place s.spare + 4) 1069052 v w = subst (λ (x : Slot). Within (slot_place x + 4) 1069052 v w) c.gather.ensures.snapshot.spare c.fill_slot.ensures.within in
-    let second = within_joined SLOT_ZERO 2138112 u v w c.in_ok-close_gate.ensures.ran.told first (within_wider (slot_place s.spare + 4) 1069052 SLOT_ZERO 2138112 v w (omega (arith, low)) (omega (arith, high)) filling_in) in
-    one_kept SLOT_ZERO 2138112 JOURNAL JOURNAL_LEN u w told (inr (omega arith)) one (second)
+    let filling_in : Within (slot_place s.spare + FIELDS) (SLOT_LEN - FIELDS) v w = subst (λ (x : Slot). Within (slot_place x + FIELDS) (SLOT_LEN - FIELDS) v w) c.gather.ensures.snapshot.spare c.fill_slot.ensures.within in
+    let second = within_joined SLOT_ZERO (2 * SLOT_LEN) u v w c.in_ok-close_gate.ensures.ran.told first (within_wider (slot_place s.spare + FIELDS) (SLOT_LEN - FIELDS) SLOT_ZERO (2 * SLOT_LEN) v w (omega (arith, low)) (omega (arith, high)) filling_in) in
+    one_kept SLOT_ZERO (2 * SLOT_LEN) JOURNAL JOURNAL_LEN u w told (inr (omega arith)) one (second)
 
 pub returns-in_err-write_synced-clause-journal : goal.returns-in_err-write_synced-clause-journal
 returns-in_err-write_synced-clause-journal g c told one =
@@ -330,14 +330,14 @@ returns-in_err-write_synced-clause-journal g c told one =
     let close : Within (slot_place s.spare) 1 u v = subst (λ (k : ℕ). Within k 1 u v) at c.close_gate.ensures.within in
     let high = place_high s.spare in
     let low = place_low s.spare in
-    let first = within_wider (slot_place s.spare) 1 SLOT_ZERO 2138112 u v (omega (arith, low)) (omega (arith, high)) close in
+    let first = within_wider (slot_place s.spare) 1 SLOT_ZERO (2 * SLOT_LEN) u v (omega (arith, low)) (omega (arith, high)) close in
     let w = g.D.Disk.view c.fill_slot.new.disk in
-    let filling_in : Within (slot_place s.spare + 4) 1069052 v w = subst (λ (x : Slot). Within (slot_place x + 4) 1069052 v w) c.gather.ensures.snapshot.spare c.fill_slot.ensures.within in
-    let second = within_joined SLOT_ZERO 2138112 u v w c.in_ok-close_gate.ensures.ran.told first (within_wider (slot_place s.spare + 4) 1069052 SLOT_ZERO 2138112 v w (omega (arith, low)) (omega (arith, high)) filling_in) in
+    let filling_in : Within (slot_place s.spare + FIELDS) (SLOT_LEN - FIELDS) v w = subst (λ (x : Slot). Within (slot_place x + FIELDS) (SLOT_LEN - FIELDS) v w) c.gather.ensures.snapshot.spare c.fill_slot.ensures.within in
+    let second = within_joined SLOT_ZERO (2 * SLOT_LEN) u v w c.in_ok-close_gate.ensures.ran.told first (within_wider (slot_place s.spare + FIELDS) (SLOT_LEN - FIELDS) SLOT_ZERO (2 * SLOT_LEN) v w (omega (arith, low)) (omega (arith, high)) filling_in) in
     let x = g.D.Disk.view c.write_synced.new.disk in
     let at_2 : c.place-2.result ≡ slot_place s.spare = c.place-2.ensures ∙ ap slot_place c.gather.ensures.snapshot.spare in
     let open_in : Within (slot_place s.spare) 1 w x = subst (λ (k : ℕ). Within k 1 w x) at_2 c.write_synced.ensures.within in
-    one_kept SLOT_ZERO 2138112 JOURNAL JOURNAL_LEN u x told (inr (omega arith)) one (within_joined SLOT_ZERO 2138112 u w x (λ told. c.in_ok-fill_slot.ensures.ran.told (c.in_ok-close_gate.ensures.ran.told told)) second (within_wider (slot_place s.spare) 1 SLOT_ZERO 2138112 w x (omega (arith, low)) (omega (arith, high)) open_in))
+    one_kept SLOT_ZERO (2 * SLOT_LEN) JOURNAL JOURNAL_LEN u x told (inr (omega arith)) one (within_joined SLOT_ZERO (2 * SLOT_LEN) u w x (λ told. c.in_ok-fill_slot.ensures.ran.told (c.in_ok-close_gate.ensures.ran.told told)) second (within_wider (slot_place s.spare) 1 SLOT_ZERO (2 * SLOT_LEN) w x (omega (arith, low)) (omega (arith, high)) open_in))
 
 pub returns-clause-journal : goal.returns-clause-journal
 returns-clause-journal g c told one =
@@ -348,11 +348,11 @@ returns-clause-journal g c told one =
     let close : Within (slot_place s.spare) 1 u v = subst (λ (k : ℕ). Within k 1 u v) at c.close_gate.ensures.within in
     let high = place_high s.spare in
     let low = place_low s.spare in
-    let first = within_wider (slot_place s.spare) 1 SLOT_ZERO 2138112 u v (omega (arith, low)) (omega (arith, high)) close in
+    let first = within_wider (slot_place s.spare) 1 SLOT_ZERO (2 * SLOT_LEN) u v (omega (arith, low)) (omega (arith, high)) close in
     let w = g.D.Disk.view c.fill_slot.new.disk in
-    let filling_in : Within (slot_place s.spare + 4) 1069052 v w = subst (λ (x : Slot). Within (slot_place x + 4) 1069052 v w) c.gather.ensures.snapshot.spare c.fill_slot.ensures.within in
-    let second = within_joined SLOT_ZERO 2138112 u v w c.in_ok-close_gate.ensures.ran.told first (within_wider (slot_place s.spare + 4) 1069052 SLOT_ZERO 2138112 v w (omega (arith, low)) (omega (arith, high)) filling_in) in
+    let filling_in : Within (slot_place s.spare + FIELDS) (SLOT_LEN - FIELDS) v w = subst (λ (x : Slot). Within (slot_place x + FIELDS) (SLOT_LEN - FIELDS) v w) c.gather.ensures.snapshot.spare c.fill_slot.ensures.within in
+    let second = within_joined SLOT_ZERO (2 * SLOT_LEN) u v w c.in_ok-close_gate.ensures.ran.told first (within_wider (slot_place s.spare + FIELDS) (SLOT_LEN - FIELDS) SLOT_ZERO (2 * SLOT_LEN) v w (omega (arith, low)) (omega (arith, high)) filling_in) in
     let x = g.D.Disk.view c.write_synced.new.disk in
     let at_2 : c.place-2.result ≡ slot_place s.spare = c.place-2.ensures ∙ ap slot_place c.gather.ensures.snapshot.spare in
     let open_in : Within (slot_place s.spare) 1 w x = subst (λ (k : ℕ). Within k 1 w x) at_2 c.write_synced.ensures.within in
-    one_kept SLOT_ZERO 2138112 JOURNAL JOURNAL_LEN u x told (inr (omega arith)) one (within_joined SLOT_ZERO 2138112 u w x (λ told. c.in_ok-fill_slot.ensures.ran.told (c.in_ok-close_gate.ensures.ran.told told)) second (within_wider (slot_place s.spare) 1 SLOT_ZERO 2138112 w x (omega (arith, low)) (omega (arith, high)) open_in))
+    one_kept SLOT_ZERO (2 * SLOT_LEN) JOURNAL JOURNAL_LEN u x told (inr (omega arith)) one (within_joined SLOT_ZERO (2 * SLOT_LEN) u w x (λ told. c.in_ok-fill_slot.ensures.ran.told (c.in_ok-close_gate.ensures.ran.told told)) second (within_wider (slot_place s.spare) 1 SLOT_ZERO (2 * SLOT_LEN) w x (omega (arith, low)) (omega (arith, high)) open_in))
