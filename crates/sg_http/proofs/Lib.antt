@@ -1,0 +1,5 @@
+pub mod FieldLemmas
+pub mod HeadLemmas
+pub mod JudgeLemmas
+pub mod Laws
+pub mod SearchLemmas

@@ -1,0 +1,5 @@
+use Rattle.sg_http.proofs.JudgeLemmas.{opens_short}
+use Rattle.sg_http.proofs.next.next_message.Goals as goal
+
+pub returns-in-InHead-clause-opens : goal.returns-in-InHead-clause-opens
+returns-in-InHead-clause-opens c = opens_short c.args.stream.now c.in-InHead.ensures.0 c.in-InHead.ensures.2

@@ -1,0 +1,6 @@
+pub mod Fields
+pub mod Head
+pub mod Messages
+pub mod Places
+pub mod Search
+pub mod Streams
