@@ -3,3 +3,4 @@ pub mod HeadLemmas
 pub mod JudgeLemmas
 pub mod Laws
 pub mod SearchLemmas
+pub mod TextLemmas

@@ -4,3 +4,4 @@ pub mod Messages
 pub mod Places
 pub mod Search
 pub mod Streams
+pub mod Texts

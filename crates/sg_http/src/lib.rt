@@ -10,9 +10,13 @@
 mod fields;
 mod message;
 mod next;
+mod reply;
+mod request;
 mod search;
 mod text;
 
 pub use message::{Next, Span, Verb};
-pub use next::Look;
+pub use next::{Look, look_at, next_message, one_opening};
+pub use reply::{Form, ReplyHead, reply_bytes};
+pub use request::request_bytes;
 pub use search::{Progress, START};
