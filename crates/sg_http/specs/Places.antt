@@ -2,6 +2,7 @@
 use Rattle.std.specs.Prelude.{◌≡◌, ◌≢◌, ℕ, ◌+◌, ◌<◌, ◌≤◌, min, true, false, List, [], ◌∷◌, ◌++◌, length, map, drop, Option, Some, None, Result, MatchResult, MatchOption}
 use Rattle.httparse.specs.declared.spans.HeaderSpan.{HeaderSpan}
 use Rattle.httparse.specs.declared.spans.RequestSpans.{RequestSpans}
+use Rattle.httparse.specs.declared.spans.ResponseSpans.{ResponseSpans}
 use Rattle.httparse.specs.Spans.{span_bytes, header_bytes}
 use Rattle.sg_http.specs.declared.fields.Found.{Found}
 use Rattle.sg_http.specs.declared.fields.Found.TheVariants.{Absent, Once, Repeated}
@@ -12,6 +13,7 @@ use Rattle.sg_http.specs.declared.next.Look.{Look}
 use Rattle.sg_http.specs.declared.next.Look.TheVariants.{Found as FoundNext, InHead, InBody}
 use Rattle.sg_http.specs.Fields.{FieldText, values, is_absent, is_repeated, length_of}
 use Rattle.sg_http.specs.Messages.{HeadText, Unfinished, judged, seen, bytes_at, IsSpanWithin, IsNextWithin}
+use Rattle.sg_http.specs.Replies.{ReplyHeadText}
 
 -- the fields at these places
 abbrev pub texts_at : List ℕ → List HeaderSpan → List FieldText
@@ -58,3 +60,11 @@ Judges h stream (FoundNext next) =
 Judges h stream (InHead progress) = ⊥
 Judges h stream (InBody total) = (length stream < total) × (total ≤ MAX_HEAD + MAX_BODY)
     × ((more : List ℕ) → length (stream ++ more) < total → judged h (stream ++ more) ≡ Unfinished)
+
+-- the parts of a reply's head by their places
+abbrev pub reply_text_at : List ℕ → List HeaderSpan → ResponseSpans → ReplyHeadText
+reply_text_at head fields parts = record {
+  status = parts.code;
+  fields = texts_at head fields;
+  used = parts.len;
+}
