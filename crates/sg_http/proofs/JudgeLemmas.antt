@@ -1,8 +1,9 @@
 -- From the places of a head's parts to what the stream begins with.
-use Rattle.std.proofs.Common.{◌≡◌, ℕ, ◌+◌, ◌-◌, ◌<◌, ◌≤◌, nat_lt, Bool, false, List, [], ◌++◌, length, take, drop, refl, sym, ap, ◌∙◌, subst, arith, inl, inr, ◌⊎◌, min, Option, Some, None, option_map, codes}
+use Rattle.std.proofs.Common.{lit≤, length-append, ◌≡◌, ℕ, ◌+◌, ◌-◌, ◌<◌, ◌≤◌, nat_lt, Bool, false, List, [], ◌++◌, length, take, drop, refl, sym, ap, ◌∙◌, subst, arith, inl, inr, ◌⊎◌, min, Option, Some, None, option_map, codes}
 use Rattle.std.specs.Prelude.{slice_range, MatchOption}
 use Rattle.std.proofs.lemmas.Bool.{lt-ltb, le-ltb, cond-true, cond-false, cases_lt}
-use Rattle.std.proofs.lemmas.List.{append-nil, length-take, length-drop, length-map, length-take-le, take-append-le, take-append-drop, drop-append-le, take_all, take_min}
+use Rattle.std.proofs.lemmas.List.{append_assoc, append-nil, length-take, length-drop, length-map, length-take-le, take-append-le, take-append-drop, drop-append-le, take_all, take_min}
+use Rattle.std.proofs.Math.Seq.{take-append-add}
 use Rattle.httparse.specs.declared.spans.HeaderSpan.{HeaderSpan}
 use Rattle.httparse.specs.declared.spans.RequestSpans.{RequestSpans}
 use Rattle.httparse.specs.Grammar.{RequestHead}
@@ -20,9 +21,9 @@ use Rattle.sg_http.specs.Messages.{Opening, Whole, Unfinished, Bad, HeadText, he
 use Rattle.sg_http.specs.Places.{text_at, IsKeyOf, Judges}
 use Rattle.sg_http.specs.declared.search.Progress.{Progress}
 use Rattle.sg_http.specs.declared.search.Search.TheVariants.{Ended, GoesOn}
-use Rattle.sg_http.specs.Search.{end_from, IsSearched, Searches, Looks}
+use Rattle.sg_http.specs.Search.{end_from, IsSearched, IsKnown, Searches, Looks}
 use Rattle.sg_http.proofs.Laws.{opens_none, opens_some, end_more}
-use Rattle.sg_http.proofs.SearchLemmas.{where_nothing_follows}
+use Rattle.sg_http.proofs.SearchLemmas.{where_nothing_follows, from_start}
 
 -- a range of a front is one of the stream
 pub part_in_front : (stream : List ℕ) (n from to : ℕ) → from ≤ to → to ≤ n
@@ -164,6 +165,37 @@ overflows_none bytes over h is =
 pub front_is : (stream : List ℕ) (n limit : ℕ) → n ≡ min (length stream) limit → take n stream ≡ take limit stream
 front_is stream n limit is =
     let same : n ≡ min limit (length stream) = omega arith in rw same (take_min limit stream)
+
+first_of : (n : ℕ) (front rest : List ℕ) → length front ≤ n
+    → take n (front ++ rest) ≡ front ++ take (n - length front) rest
+first_of n front rest short =
+    let k = n - length front in
+    let all : length front + k ≡ n = omega arith in
+    let P : ℕ → Type 0 = λ m. take m (front ++ rest) ≡ front ++ take k rest in
+    subst P all (take-append-add front rest k)
+
+longer_front : (front later : List ℕ) (progress : Progress) → IsSearched front progress → IsSearched (front ++ later) progress
+longer_front front later progress searched =
+    let within : progress.at ≤ length (front ++ later) = omega (arith, searched.0, length-append front later) in
+    (within, λ more. rw (append_assoc front later more) (searched.1 (later ++ more)))
+
+-- what is known of a front is known of the first bytes of the stream
+pub known_front : (stream : List ℕ) (progress : Progress) → IsKnown stream progress
+    → IsSearched (take MAX_HEAD stream) progress
+known_front stream progress known =
+    let first = first_of MAX_HEAD known.front known.rest known.short in
+    let P : List ℕ → Type 0 = λ bytes. IsSearched bytes progress in
+    subst P (sym (ap (take MAX_HEAD) known.split ∙ first)) (longer_front known.front _ progress known.searched)
+
+-- nothing is known of any stream
+pub known_none : (stream : List ℕ) → IsKnown stream (record { at = 0; begun = false })
+known_none stream = record {
+  front = [];
+  rest = stream;
+  split = refl;
+  short = lit≤ tt;
+  searched = (lit≤ tt, λ more. sym (from_start (head_end more)));
+}
 
 pub end_found : (bytes : List ℕ) (progress : Progress) (end : ℕ) → IsSearched bytes progress
     → Searches bytes progress.begun progress.at (Ended end) → head_end bytes ≡ Some end

@@ -1,15 +1,12 @@
 -- What the bytes of a reply say, by each of the ways to say it.
-use Rattle.std.proofs.Common.{◌≡◌, ℕ, ◌+◌, arith, true, false, List, [], ◌++◌, length, take, refl, sym, ap, ◌∙◌, subst, Option, Some, None, option_map}
+use Rattle.std.proofs.Common.{◌≡◌, ℕ, true, false, List, [], ◌++◌, length, take, refl, sym, ◌∙◌, subst, Some, None}
 use Rattle.std.proofs.lemmas.List.{append-nil}
 use Rattle.sg_http.specs.declared.search.Search.TheVariants.{Ended, GoesOn}
 use Rattle.sg_http.specs.declared.search.Progress.{Progress}
 use Rattle.sg_http.specs.Head.{empty_end}
 use Rattle.sg_http.specs.Replies.{Reading, Part, NoReply, ReplyHeads, Reads, may_be_http}
 use Rattle.sg_http.specs.Search.{Searches}
-
-from_start : (o : Option ℕ) → option_map (λ n. 0 + n) o ≡ o
-from_start None = refl
-from_start (Some n) = let e : 0 + n ≡ n = omega arith in ap Some e
+use Rattle.sg_http.proofs.SearchLemmas.{from_start}
 
 pub empty_found : (bytes : List ℕ) (end : ℕ) → Searches bytes true 0 (Ended end) → empty_end bytes ≡ Some end
 empty_found bytes end found =

@@ -14,6 +14,10 @@ pub where_nothing_follows : (f g : List ℕ → Option ℕ) (bytes : List ℕ)
 where_nothing_follows f g bytes same =
     let P : List ℕ → Type 0 = λ all. f all ≡ g all in subst P (append-nil bytes) (same [])
 
+pub from_start : (o : Option ℕ) → option_map (λ n. 0 + n) o ≡ o
+from_start None = refl
+from_start (Some n) = let e : 0 + n ≡ n = omega arith in ap Some e
+
 shifted : (at : ℕ) (o : Option ℕ)
     → option_map (λ n. at + n) (option_map (λ n. 1 + n) o) ≡ option_map (λ n. at + 1 + n) o
 shifted at None = refl

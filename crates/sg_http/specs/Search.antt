@@ -22,6 +22,14 @@ IsSearched bytes progress =
     (progress.at ≤ length bytes)
     × ((more : List ℕ) → head_end (bytes ++ more) ≡ end_from progress.begun progress.at (bytes ++ more))
 
+-- The progress is that of a search of a front of the stream, as an earlier look at the stream left it.
+pub record IsKnown (stream : List ℕ) (progress : Progress) : Type 0 where
+  pub front : List ℕ
+  pub rest : List ℕ
+  pub split : stream ≡ front ++ rest
+  pub short : length front ≤ MAX_HEAD
+  pub searched : IsSearched front progress
+
 -- What the bytes begin with, whatever follows: an empty line of n bytes; a byte that begins none; or too few to tell.
 abbrev pub BeginsWith : List ℕ → Line → Type 0
 BeginsWith bytes (Empty n) = (n ≤ length bytes) × ((more : List ℕ) → empty_end (bytes ++ more) ≡ Some n)

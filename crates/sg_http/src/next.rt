@@ -5,7 +5,7 @@ ghost use Rattle.sg_http.specs.Head.{head_end};
 ghost use Rattle.sg_http.specs.Fields.{verb_of};
 ghost use Rattle.sg_http.specs.Messages.{Opening, Unfinished, Opens, seen, IsNextWithin};
 ghost use Rattle.sg_http.specs.Places.{text_at, Judges};
-ghost use Rattle.sg_http.specs.Search.{IsSearched, Looks};
+ghost use Rattle.sg_http.specs.Search.{IsKnown, Looks};
 
 use crate::fields::{closes, read_fields};
 use crate::message::{Next, Span, Verb};
@@ -42,7 +42,7 @@ pub fn next_message(stream: &[u8]) -> Next
 /// A caller that goes on from `InHead`, and that waits for the bytes of `InBody`, has each byte of the stream looked at
 /// once while the head comes, however small the pieces are.
 pub fn look_at(stream: &[u8], from: Progress) -> Look
-    requires { IsSearched (take MAX_HEAD stream.now) from }
+    requires { IsKnown stream.now from }
     ensures { Looks stream.now result }
 {
     let front = &stream[..stream.len().min(MAX_HEAD)];
