@@ -3,6 +3,10 @@ pub mod FieldLemmas
 pub mod HeadLemmas
 pub mod JudgeLemmas
 pub mod Laws
+pub mod LineLemmas
 pub mod ReadingLemmas
+pub mod ReplyLaws
 pub mod SearchLemmas
+pub mod StatusLemmas
 pub mod TextLemmas
+pub mod TreeLemmas
