@@ -1,9 +1,10 @@
 -- The test of activity decides the relation.
-use Rattle.std.proofs.Common.{◌≡◌, ℕ, ◌-◌, ◌/◌, ◌<◌, ◌≤◌, Bool, true, ◌&&◌, nat_le, int_le, int_lt, Option, Some, ◌⊎◌, inl, inr, refl, sym, ◌∙◌, arith, ℤ, pos, negsuc, ◌+ℤ◌, ◌-ℤ◌, ◌*ℤ◌, ◌<ℤ◌, ◌≤ℤ◌, Decides}
+use Rattle.std.proofs.Common.{◌≡◌, ℕ, ◌-◌, ◌/◌, ◌*◌, ◌<◌, ◌≤◌, Bool, true, ◌&&◌, nat_le, int_le, int_lt, Option, Some, ◌⊎◌, inl, inr, refl, sym, ◌∙◌, arith, ℤ, pos, negsuc, ◌+ℤ◌, ◌-ℤ◌, ◌*ℤ◌, ◌<ℤ◌, ◌≤ℤ◌, Decides}
 use Rattle.std.proofs.lemmas.Bool.{and_parts, and_from, leb-true, le-leb, false≢true}
 use Rattle.std.proofs.lemmas.Bool.Decides.{Decides-below_or, same_from_decides}
 use Rattle.std.proofs.lemmas.Int.{ints, by_lt_z}
 use Rattle.jiff_core.proofs.SignedLemmas.{signed_arith}
+use Rattle.sg_base.specs.declared.limits.TheConstants.{DAY}
 use Rattle.sg_base.specs.declared.event.When.{When}
 use Rattle.sg_base.specs.declared.event.When.TheVariants.{Custom, Named}
 use Rattle.sg_base.specs.declared.ids.DaypartId.{DaypartId}
@@ -31,7 +32,7 @@ any_below_is : (p : ℕ → Bool) (n : ℕ) → Decides (any_below p n) ((k : �
 unfolding any_below
 any_below_is p n = Decides-below_or p (λ k. p k ≡ true) (any_below p) (λ k. (λ h. h, λ h. h)) refl (λ _. refl) n
 
-Decides-map : {A B : Type 0} → (b : Bool) → (A → B) → (B → A) → Decides b A → Decides b B
+pub Decides-map : {A B : Type 0} → (b : Bool) → (A → B) → (B → A) → Decides b A → Decides b B
 Decides-map b f g h = (λ e. f (h.0 e), λ x. h.1 (g x))
 
 module _ (from to : ℕ) (r : Option RepeatRow) (t : ℕ) where
@@ -65,19 +66,19 @@ running_decides from to r d (pos t) = Decides-map _ (run_from from to r t) (run_
 running_decides from to r d (negsuc n) = (λ e. absurd (false≢true e), λ h. absurd (no_run from to r n h))
 
 -- a second in the window of a date is on that day or the next
-near : (D t start finish : ℕ) → finish ≤ 172799 → (pos D *ℤ pos 86400 +ℤ pos start) ≤ℤ pos t → pos t <ℤ (pos D *ℤ pos 86400 +ℤ pos finish) → (D ≤ t / 86400) × (t / 86400 - D < 2)
+near : (D t start finish : ℕ) → finish < 2 * DAY → (pos D *ℤ pos DAY +ℤ pos start) ≤ℤ pos t → pos t <ℤ (pos D *ℤ pos DAY +ℤ pos finish) → (D ≤ t / DAY) × (t / DAY - D < 2)
 near D t start finish bound begun over = (omega (arith, signed_arith), omega (arith, signed_arith))
 
 -- a second before 1970 is in the window of no date from 1970 on
-never : (D n start : ℕ) → (pos D *ℤ pos 86400 +ℤ pos start) ≤ℤ negsuc n → ⊥
+never : (D n start : ℕ) → (pos D *ℤ pos DAY +ℤ pos start) ≤ℤ negsuc n → ⊥
 never D n start h = absurd (omega (arith, signed_arith))
 
 module _ (daypart : DaypartId) (base : ℕ) (r : Option RepeatRow) (d : DaypartRow) where
   open_from : (t : ℕ) → ((k : ℕ) × (k < 2) × (opened_before d base r t k ≡ true)) → IsOpen (Named daypart base) r d (pos t)
   open_from t h =
       let k = h.0 in
-      let day = t / 86400 - k in
-      let a = and_parts (nat_le k (t / 86400)) (is_date r base day && is_within d day t) h.2 in
+      let day = t / DAY - k in
+      let a = and_parts (nat_le k (t / DAY)) (is_date r base day && is_within d day t) h.2 in
       let b = and_parts (is_date r base day) (is_within d day t) a.1 in
       let w = and_parts (int_le (opens d (pos day)) (pos t)) (int_lt (pos t) (closes d (pos day))) b.1 in
       record {
@@ -89,11 +90,11 @@ module _ (daypart : DaypartId) (base : ℕ) (r : Option RepeatRow) (d : DaypartR
   open_at t day valid h =
       let w = window_at d (pos day) in
       let within = near day t w.start (end_of w) (end_bound w (window_valid d (pos day) valid).end) h.begun h.not_over in
-      let late : t / 86400 - day ≤ t / 86400 = omega arith in
-      let back : t / 86400 - (t / 86400 - day) ≡ day = omega (arith, within.0) in
+      let late : t / DAY - day ≤ t / DAY = omega arith in
+      let back : t / DAY - (t / DAY - day) ≡ day = omega (arith, within.0) in
       let is : is_date r base day ≡ true = h.is in
       let inside : is_within d day t ≡ true = and_from _ _ (le-int_le (opens d (pos day)) (pos t) h.begun) (lt-int_lt (pos t) (closes d (pos day)) h.not_over) in
-      (t / 86400 - day, within.1, and_from _ _ (le-leb _ _ late) (rw back (and_from _ _ is inside)))
+      (t / DAY - day, within.1, and_from _ _ (le-leb _ _ late) (rw back (and_from _ _ is inside)))
 
   open_to : (t : ℕ) → IsDaypart d → (date : ℤ) → IsOpenOn (Named daypart base) r d (pos t) date → ((k : ℕ) × (k < 2) × (opened_before d base r t k ≡ true))
   open_to t valid (pos day) h = open_at t day valid h
@@ -107,19 +108,19 @@ module _ (daypart : DaypartId) (base : ℕ) (r : Option RepeatRow) (d : DaypartR
   open_decides (pos t) valid = Decides-map _ (open_from t) (λ h. open_to t (valid (omega (arith, signed_arith))) h.date h.open_on) (any_below_is (opened_before d base r t) 2)
   open_decides (negsuc n) valid = (λ e. absurd (false≢true e), λ h. absurd (no_open n h.date h.open_on))
 
-days_near : (date t today : ℤ) (start finish : ℕ) → finish ≤ 172799 → (today *ℤ pos 86400) ≤ℤ t → t <ℤ (today *ℤ pos 86400 +ℤ pos 86400) → (date *ℤ pos 86400 +ℤ pos start) ≤ℤ t → t <ℤ (date *ℤ pos 86400 +ℤ pos finish) → (date ≡ today) ⊎ (date ≡ today -ℤ pos 1)
+days_near : (date t today : ℤ) (start finish : ℕ) → finish < 2 * DAY → (today *ℤ pos DAY) ≤ℤ t → t <ℤ (today *ℤ pos DAY +ℤ pos DAY) → (date *ℤ pos DAY +ℤ pos start) ≤ℤ t → t <ℤ (date *ℤ pos DAY +ℤ pos finish) → (date ≡ today) ⊎ (date ≡ today -ℤ pos 1)
 days_near date t today start finish bound low high begun over =
     let late : date ≤ℤ today = omega (arith, signed_arith) in
     let near : (today -ℤ pos 1) ≤ℤ date = omega (arith, signed_arith) in
     by_lt_z date today (λ lt. inr (omega (arith, signed_arith))) (λ ge. inl (omega (arith, signed_arith)))
 
 -- only the windows of t's day and of the day before hold t
-open_days : (w : When) (r : Option RepeatRow) (d : DaypartRow) (t today date : ℤ) → IsDaypart d → (today *ℤ pos 86400) ≤ℤ t → t <ℤ (today *ℤ pos 86400 +ℤ pos 86400) → IsOpenOn w r d t date → (date ≡ today) ⊎ (date ≡ today -ℤ pos 1)
+open_days : (w : When) (r : Option RepeatRow) (d : DaypartRow) (t today date : ℤ) → IsDaypart d → (today *ℤ pos DAY) ≤ℤ t → t <ℤ (today *ℤ pos DAY +ℤ pos DAY) → IsOpenOn w r d t date → (date ≡ today) ⊎ (date ≡ today -ℤ pos 1)
 open_days w r d t today date valid low high h =
     let span = window_at d date in
     days_near date t today span.start (end_of span) (end_bound span (window_valid d date valid).end) low high h.begun h.not_over
 
-pub open_either : (w : When) (r : Option RepeatRow) (d : DaypartRow) (t today yesterday : ℤ) (b : Bool) → (IsOpenOn w r d t today → ⊥) → Decides b (IsOpenOn w r d t yesterday) → IsDaypart d → yesterday ≡ today -ℤ pos 1 → (today *ℤ pos 86400) ≤ℤ t → t <ℤ (today *ℤ pos 86400 +ℤ pos 86400) → Decides b (IsOpen w r d t)
+pub open_either : (w : When) (r : Option RepeatRow) (d : DaypartRow) (t today yesterday : ℤ) (b : Bool) → (IsOpenOn w r d t today → ⊥) → Decides b (IsOpenOn w r d t yesterday) → IsDaypart d → yesterday ≡ today -ℤ pos 1 → (today *ℤ pos DAY) ≤ℤ t → t <ℤ (today *ℤ pos DAY +ℤ pos DAY) → Decides b (IsOpen w r d t)
 open_either w r d t today yesterday b none h valid e low high = (
   λ x. record { date = yesterday; open_on = h.0 x },
   λ o. elim (open_days w r d t today o.date valid low high o.open_on) [

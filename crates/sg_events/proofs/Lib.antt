@@ -1,1 +1,3 @@
 pub mod ActiveLemmas
+pub mod EdgeLemmas
+mod Examples

@@ -1,5 +1,6 @@
 -- When an event is active: some occurrence has begun and isn't over.
 use Rattle.std.specs.Prelude.{◌≡◌, ℕ, zero, suc, ◌+◌, ◌-◌, ◌/◌, nat_le, int_le, int_lt, ◌&&◌, ◌||◌, Bool, true, false, Option, Some, None, ⊤, ℤ, pos, negsuc, ◌<ℤ◌, ◌≤ℤ◌}
+use Rattle.sg_base.specs.declared.limits.TheConstants.{DAY}
 use Rattle.sg_base.specs.declared.event.When.{When}
 use Rattle.sg_base.specs.declared.event.When.TheVariants.{Always, Custom, Named}
 use Rattle.sg_base.specs.Daypart.{DaypartRow}
@@ -53,7 +54,7 @@ is_within d day t = int_le (opens d (pos day)) (pos t) && int_lt (pos t) (closes
 
 -- the day k days ago is a date of the event, and t lies in its window
 abbrev pub opened_before : DaypartRow → ℕ → Option RepeatRow → ℕ → ℕ → Bool
-opened_before d base r t k = nat_le k (t / 86400) && (is_date r base (t / 86400 - k) && is_within d (t / 86400 - k) t)
+opened_before d base r t k = nat_le k (t / DAY) && (is_date r base (t / DAY - k) && is_within d (t / DAY - k) t)
 
 -- the same as a test, for lists: an occurrence began less than the event's length ago, or the window of t's
 -- day or of the day before holds t; before 1970 only an event that is always active is

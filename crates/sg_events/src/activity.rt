@@ -1,15 +1,15 @@
 //! Whether an event is active at a second.
 
-ghost use Rattle.std.specs.Prelude.{◌≡◌, ◌+◌, ◌-◌, ◌<◌, pos, neg_ℤ, ◌<ℤ◌, ◌≤ℤ◌, ◌↔◌, IsTrue, option_map};
+ghost use Rattle.std.specs.Prelude.{◌≡◌, ◌+◌, ◌-◌, ◌<◌, pos, ◌<ℤ◌, ◌≤ℤ◌, ◌↔◌, IsTrue, option_map};
 ghost use Rattle.sg_base.specs.Daypart.{IsDaypart};
+ghost use Rattle.sg_base.specs.Seconds.{IsAskable};
 ghost use Rattle.sg_calendar.specs.Dates.{IsNamed};
 ghost use Rattle.sg_events.specs.Active.{IsActive, IsRunning, IsOpen, IsOpenOn, HasDaypart, is_active_at};
 
+use sg_base::limits::{DATE_END, DAY};
 use sg_base::{Daypart, Event, LocalSec, Repeat, Steps, When};
 use sg_calendar::{latest_start, on_date, window};
 use std::sync::ledger::Ledger;
-
-const DAY_SECONDS: i64 = 86_400;
 
 /// Whether an event is active at the local second t: whether some occurrence has begun and isn't over. An
 /// event in a daypart comes with its daypart. t is from -93,599 up to 4,102,703,999. Each call counts one
@@ -20,12 +20,12 @@ pub fn active<L: Ledger>(
     t: LocalSec,
     steps: &mut Steps<L>,
 ) -> bool
-    requires low { neg_ℤ (pos 93599) ≤ℤ t }
-    requires high { t <ℤ pos 4102704000 }
+    requires second { IsAskable t }
     requires daypart { HasDaypart event.now.when (option_map (λ d. d.now) daypart) }
     ensures meaning { IsTrue result
         ↔ IsActive event.now.when event.now.repeat (option_map (λ d. d.now) daypart.entry) t }
-    ensures test { result ≡ is_active_at event.now.when event.now.repeat (option_map (λ d. d.now) daypart.entry) t }
+    ensures test { result ≡ is_active_at event.now.when event.now.repeat
+        (option_map (λ d. d.now) daypart.entry) t }
     ensures ticks { steps.new ≡ steps.old + 1 }
 {
     steps.tick();
@@ -33,12 +33,12 @@ pub fn active<L: Ledger>(
 }
 
 fn is_active(event: &Event, daypart: Option<&Daypart>, t: LocalSec) -> bool
-    requires low { neg_ℤ (pos 93599) ≤ℤ t }
-    requires high { t <ℤ pos 4102704000 }
+    requires second { IsAskable t }
     requires daypart { HasDaypart event.now.when (option_map (λ d. d.now) daypart) }
     ensures meaning { IsTrue result
         ↔ IsActive event.now.when event.now.repeat (option_map (λ d. d.now) daypart.entry) t }
-    ensures test { result ≡ is_active_at event.now.when event.now.repeat (option_map (λ d. d.now) daypart.entry) t }
+    ensures test { result ≡ is_active_at event.now.when event.now.repeat
+        (option_map (λ d. d.now) daypart.entry) t }
 {
     match event.when() {
         When::Always => true,
@@ -52,8 +52,7 @@ fn is_active(event: &Event, daypart: Option<&Daypart>, t: LocalSec) -> bool
 
 // Whether less than the event's length has gone by since its latest start.
 fn is_running(from: u32, to: u32, repeat: &Option<Repeat>, t: LocalSec) -> bool
-    requires low { neg_ℤ (pos 93599) ≤ℤ t }
-    requires high { t <ℤ pos 4102704000 }
+    requires second { IsAskable t }
     requires some { from < to }
     ensures { IsTrue result ↔ IsRunning from to repeat.now t }
 {
@@ -67,8 +66,7 @@ fn is_running(from: u32, to: u32, repeat: &Option<Repeat>, t: LocalSec) -> bool
 // of the day before can hold t. No date is before 1970.
 fn is_open(event: &Event, daypart: &Daypart, t: LocalSec) -> bool
     requires named { IsNamed event.now.when }
-    requires low { neg_ℤ (pos 93599) ≤ℤ t }
-    requires high { t <ℤ pos 4102704000 }
+    requires second { IsAskable t }
     ensures meaning { IsTrue result ↔ IsOpen event.now.when event.now.repeat daypart.now t }
     ensures valid { pos 0 ≤ℤ t → IsDaypart daypart.now }
 {
@@ -76,7 +74,7 @@ fn is_open(event: &Event, daypart: &Daypart, t: LocalSec) -> bool
     if second < 0 {
         return false;
     }
-    let today = second / DAY_SECONDS;
+    let today = second / DAY as i64;
     is_open_on(event, daypart, today, t) || today > 0 && is_open_on(event, daypart, today - 1, t)
 }
 
@@ -84,10 +82,16 @@ fn is_open(event: &Event, daypart: &Daypart, t: LocalSec) -> bool
 fn is_open_on(event: &Event, daypart: &Daypart, date: i64, t: LocalSec) -> bool
     requires named { IsNamed event.now.when }
     requires low { pos 0 ≤ℤ date }
-    requires high { date ≤ℤ pos 47485 }
+    requires high { date ≤ℤ DATE_END }
     ensures meaning { IsTrue result ↔ IsOpenOn event.now.when event.now.repeat daypart.now t date }
     ensures valid { IsDaypart daypart.now }
 {
     let (opens, closes) = window(daypart, date);
-    opens <= t && t < closes && on_date(event, date)
+    is_within(t, opens, closes) && on_date(event, date)
+}
+
+fn is_within(t: LocalSec, opens: LocalSec, closes: LocalSec) -> bool
+    ensures { IsTrue result ↔ ((opens ≤ℤ t) × (t <ℤ closes)) }
+{
+    opens <= t && t < closes
 }

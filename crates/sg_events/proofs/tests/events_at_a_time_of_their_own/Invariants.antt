@@ -1,4 +1,0 @@
-use Rattle.sg_events.proofs.tests.events_at_a_time_of_their_own.Given as goal
-
-abbrev pub ghosts-active_at : goal.ghosts-active_at
-ghosts-active_at g a = record { name = a.blank.name; parts = a.blank.parts }
