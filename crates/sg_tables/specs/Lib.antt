@@ -1,0 +1,5 @@
+pub mod Rows
+pub mod Entries
+pub mod Refusals
+pub mod Counts
+pub mod Tables
