@@ -166,7 +166,7 @@ pub front_is : (stream : List ℕ) (n limit : ℕ) → n ≡ min (length stream)
 front_is stream n limit is =
     let same : n ≡ min limit (length stream) = omega arith in rw same (take_min limit stream)
 
-first_of : (n : ℕ) (front rest : List ℕ) → length front ≤ n
+pub first_of : (n : ℕ) (front rest : List ℕ) → length front ≤ n
     → take n (front ++ rest) ≡ front ++ take (n - length front) rest
 first_of n front rest short =
     let k = n - length front in

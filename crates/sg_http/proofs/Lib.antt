@@ -6,6 +6,7 @@ pub mod Laws
 pub mod LineLemmas
 pub mod ReadingLemmas
 pub mod ReplyLaws
+pub mod RequestLaws
 pub mod SearchLemmas
 pub mod StatusLemmas
 pub mod TextLemmas

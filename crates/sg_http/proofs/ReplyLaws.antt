@@ -1,13 +1,12 @@
 -- The text of a reply is read as what it is, and a front of it as cut.
 use Rattle.std.proofs.Common.{◌≡◌, ℕ, ◌^◌, ◌<◌, ◌≤◌, nat_lt, nat_le, Bool, true, false, ◌||◌, List, [], ◌∷◌, ◌++◌, length, take, drop, map, refl, sym, ap, ◌∙◌, subst, arith, append_assoc, inl, inr, ◌⊎◌, codes, Option, Some, None, lit≤}
-use Rattle.std.specs.Prelude.{◌==◌, All, decimal, MatchOption, MatchBool}
+use Rattle.std.specs.Prelude.{◌==◌, decimal, MatchOption, MatchBool}
 use Rattle.std.specs.List.{list_all}
 use Rattle.std.specs.Char.{is_ascii_digit}
 use Rattle.std.proofs.lemmas.Bool.{lt-ltb, le-ltb, le-leb, eq-eqb, and_from, cases_lt}
 use Rattle.std.proofs.lemmas.Fmt.{decimal_is_IsNumeral, length-decimal-le}
 use Rattle.std.proofs.lemmas.List.{append-nil, length-append, length-drop, take_at, drop_at, take-append-le, take-append-drop}
-use Rattle.std.proofs.lemmas.List.Elements.{All-cons, All-nil}
-use Rattle.httparse.specs.Grammar.{is_token_byte, IsField, crlf, is_value_byte, trim_ows, ResponseHead, IsResponseHead, print_response, ReadsResponse, status_code}
+use Rattle.httparse.specs.Grammar.{is_token_byte, crlf, is_value_byte, trim_ows, ResponseHead, IsResponseHead, print_response, ReadsResponse, status_code}
 use Rattle.httparse.specs.Spans.{name_and_value}
 use Rattle.httparse.proofs.GrammarLemmas.{response_unique}
 use Rattle.sg_base.specs.declared.limits.TheConstants.{MAX_FIELDS}
@@ -20,7 +19,7 @@ use Rattle.sg_http.specs.Texts.{reason, IsStatus, form_name, verb_name, status_l
 use Rattle.sg_http.specs.Replies.{Reading, Answer, Part, NoReply, agrees_with, may_be_http, short_number, reply_length, reply_head_text, with_length, reply_judged, IsReplyHeadOf, ReplyHeads, Reads}
 use Rattle.sg_http.proofs.LineLemmas.{is_clean, IsLine, AreLines, head_ends, cut_head}
 use Rattle.sg_http.proofs.StatusLemmas.{good_status}
-use Rattle.sg_http.proofs.TreeLemmas.{Pair, field_of, line_of, fields_text, AllPass-from_test, ArePairs, IsField-from_pair, digits_are_value, digits_trim, decimal_passes, digits_clean}
+use Rattle.sg_http.proofs.TreeLemmas.{Pair, field_of, line_of, fields_text, AllPass-from_test, ArePairs, fields_are, digits_are_value, digits_trim, decimal_passes, digits_clean}
 use Rattle.sg_http.proofs.ReadingLemmas.{reads_head, reads_part}
 
 -- ---- the tree of a reply's head
@@ -81,11 +80,6 @@ form_clean : (form : Form) → is_clean (type_line form) ≡ true
 form_clean Json = refl
 form_clean Octets = refl
 form_clean Csv = refl
-
-fields_are : (pairs : List Pair) → ArePairs pairs → All IsField (map field_of pairs)
-fields_are [] are = All-nil IsField
-fields_are (pair ∷ pairs) are =
-    All-cons IsField (field_of pair) (map field_of pairs) (IsField-from_pair pair are.0) (fields_are pairs are.1)
 
 more_pairs : (allow : Option Verb) (close : Bool) → ArePairs (allow_pairs allow ++ close_pairs close)
 unfolding is_token_byte

@@ -1,7 +1,7 @@
 -- The trees of the grammar for the heads that are made here: fields with one space before their value, and CR LF at
 -- each end.
 use Rattle.std.proofs.Common.{◌≡◌, ℕ, ◌<◌, Bool, true, false, ◌&&◌, not, IsTrue, List, [], ◌∷◌, ◌++◌, length, map, reverse, refl, arith, append_assoc}
-use Rattle.std.specs.Prelude.{decimal, ◌^◌}
+use Rattle.std.specs.Prelude.{All, decimal, ◌^◌}
 use Rattle.std.specs.List.{flat_map, list_all}
 use Rattle.std.specs.Char.{is_ascii_digit}
 use Rattle.std.proofs.lemmas.Bool.{and_parts, and_from, cond-false}
@@ -53,6 +53,11 @@ IsField-from_pair pair is = record {
 abbrev pub ArePairs : List Pair → Type 0
 ArePairs [] = Unit {0}
 ArePairs (pair ∷ pairs) = IsPair pair × ArePairs pairs
+
+pub fields_are : (pairs : List Pair) → ArePairs pairs → All IsField (map field_of pairs)
+fields_are [] are = All-nil IsField
+fields_are (pair ∷ pairs) are =
+    All-cons IsField (field_of pair) (map field_of pairs) (IsField-from_pair pair are.0) (fields_are pairs are.1)
 
 -- ---- digits as a value
 

@@ -1,6 +1,9 @@
 -- The texts of replies and of a player's requests.
-use Rattle.std.specs.Prelude.{◌≡◌, ◌≢◌, ℕ, ◌<◌, ◌==◌, Bool, true, false, List, [], ◌∷◌, ◌++◌, length, codes, decimal, if◌then◌else◌, Option, Some, None}
+use Rattle.std.specs.Prelude.{◌≡◌, ◌≢◌, ℕ, ◌<◌, ◌≤◌, ◌==◌, Bool, true, false, List, [], ◌∷◌, ◌++◌, length, codes, decimal, if◌then◌else◌, Option, Some, None, IsUtf8}
+use Rattle.std.specs.List.{list_all}
 use Rattle.httparse.specs.Ascii.{space, crlf_bytes}
+use Rattle.httparse.specs.Grammar.{is_uri_byte, is_value_byte, trim_ows}
+use Rattle.sg_base.specs.declared.limits.TheConstants.{MAX_HEAD, MAX_BODY}
 use Rattle.sg_http.specs.declared.message.Verb.{Verb}
 use Rattle.sg_http.specs.declared.message.Verb.TheVariants.{Get, Post, Put, Other}
 use Rattle.sg_http.specs.declared.reply.Form.{Form}
@@ -115,3 +118,15 @@ IsBodyOf Get body = body ≡ None
 IsBodyOf Post body = body ≢ None
 IsBodyOf Put body = body ≢ None
 IsBodyOf Other body = ⊥
+
+-- A request that is read as what it is: its path is a target of the grammar, its key has no blanks at its ends, and it
+-- has no more bytes than a message may have.
+pub record IsSendable (verb : Verb) (path key : List ℕ) (body : Option (List ℕ)) : Type 0 where
+  pub method : IsBodyOf verb body
+  pub some : 0 < length path
+  pub target : list_all is_uri_byte path ≡ true
+  pub text : IsUtf8 path
+  pub value : list_all is_value_byte key ≡ true
+  pub trimmed : trim_ows key ≡ key
+  pub head : length (head_lines (request_lines verb path key body)) ≤ MAX_HEAD
+  pub size : length (body_bytes body) ≤ MAX_BODY

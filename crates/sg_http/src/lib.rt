@@ -19,7 +19,7 @@ mod text;
 
 pub use message::{Next, Span, Verb};
 pub use next::{Look, look_at, next_message, one_opening};
-pub use read_back::replies_read_back;
+pub use read_back::{replies_read_back, requests_read_back};
 pub use reading::{ReplyRead, read_reply};
 pub use reply::{Form, ReplyHead, reply_bytes};
 pub use request::request_bytes;

@@ -1,9 +1,10 @@
 // What is made is read as what it is: laws of the definitions, over every text.
-ghost use Rattle.std.specs.Prelude.{◌≡◌, ℕ, ◌<◌, Bool, List, [], ◌++◌, length, Option};
+ghost use Rattle.std.specs.Prelude.{◌≡◌, ℕ, ◌<◌, Bool, true, List, [], ◌++◌, length, Option, Some};
 ghost use Rattle.sg_http.specs.declared.message.Verb.{Verb};
 ghost use Rattle.sg_http.specs.declared.reply.Form.{Form};
+ghost use Rattle.sg_http.specs.Messages.{Whole, Opens};
 ghost use Rattle.sg_http.specs.Replies.{Answer, Part, Reading, Reads};
-ghost use Rattle.sg_http.specs.Texts.{IsStatus, reply_head, reply_text};
+ghost use Rattle.sg_http.specs.Texts.{IsSendable, IsStatus, body_bytes, reply_head, reply_text, request_text};
 
 /// The text of a reply whose body has less than 10,000,000,000 bytes is read back whole, whatever follows it, and a
 /// front of it as cut: in its head with status 0, and in its body with its own status and length.
@@ -26,4 +27,20 @@ pub fn replies_read_back()
 
     // The bytes of a reply say one thing.
     ensures one { (bytes : List ℕ) (a b : Reading) → Reads bytes a → Reads bytes b → a ≡ b }
+{}
+
+/// The text of a player's request is a message of its method, path, key and body that asks to close and has all the
+/// bytes, whatever follows it.
+pub fn requests_read_back()
+    ensures { (verb : Verb) (path key : List ℕ) (body : Option (List ℕ)) (more : List ℕ)
+        → IsSendable verb path key body
+        → Opens (request_text verb path key body ++ more)
+        (Whole (record {
+          method = verb;
+          target = path;
+          key = Some key;
+          body = body_bytes body;
+          close = true;
+        })
+        (length (request_text verb path key body))) }
 {}
