@@ -1,5 +1,5 @@
 -- A stream begins with one thing, and a message or a refusal stays, however the stream goes on.
-use Rattle.std.proofs.Common.{◌≡◌, ℕ, ◌+◌, ◌-◌, ◌<◌, ◌≤◌, nat_lt, false, List, [], ◌++◌, length, take, drop, refl, sym, ap, ◌∙◌, subst, arith, inl, inr, ◌⊎◌, Option, Some, None, if◌then◌else◌}
+use Rattle.std.proofs.Common.{◌≡◌, ℕ, ◌+◌, ◌-◌, ◌<◌, ◌≤◌, nat_lt, true, false, List, [], ◌∷◌, ◌++◌, length, take, drop, refl, sym, ap, ◌∙◌, subst, arith, inl, inr, ◌⊎◌, Option, Some, None, if◌then◌else◌}
 use Rattle.std.specs.Prelude.{◌≢◌, MatchOption}
 use Rattle.std.proofs.lemmas.Bool.{lt-ltb, le-ltb, cond-true, cond-false, cases_lt}
 use Rattle.std.proofs.lemmas.List.{length-append, length-take, take-append-le, drop-append-le, append-nil, take_all}
@@ -8,7 +8,8 @@ use Rattle.httparse.specs.Grammar.{RequestHead, print_request}
 use Rattle.httparse.proofs.GrammarLemmas.{request_unique}
 use Rattle.sg_base.specs.declared.limits.TheConstants.{MAX_HEAD}
 use Rattle.sg_http.specs.Head.{head_end}
-use Rattle.sg_http.specs.Messages.{Opening, Unfinished, Bad, HeadText, head_text, body_length, with_body, or_bad, judged, IsHeadOf, Heads, Opens}
+use Rattle.sg_http.specs.Messages.{Request, Opening, Whole, Unfinished, Bad, HeadText, head_text, body_length, with_body, or_bad, judged, IsHeadOf, Heads, Opens}
+use Rattle.sg_http.specs.Streams.{Messages}
 use Rattle.sg_http.specs.Fields.{fault_of, verb_of}
 use Rattle.sg_http.proofs.HeadLemmas.{head_end_more, head_end_within}
 
@@ -120,3 +121,17 @@ opens_more s more o found opens = by_end (head_end (take MAX_HEAD s)) refl opens
         let later = end_more s more n end in
         let there : Heads (take n (s ++ more)) (s ++ more) o = rw later.1 (heads_more s more n o later.2 found heads) in
         opens_some (s ++ more) o n later.0 there
+
+-- ---- one message of a connection
+
+pub one_message : (request taken left : List ℕ) (m : Request) (used : ℕ) (ms : List Request) (rest : List ℕ)
+    → Opens request (Whole m used) → m.close ≡ true → request ≡ taken ++ left → Messages taken ms rest
+    → (ms ≡ []) ⊎ (ms ≡ m ∷ [])
+one_message request taken left m used [] rest opens closes split are = inl refl
+one_message request taken left m used (k ∷ ks) rest opens closes split are =
+    let P : List ℕ → Type 0 = λ l. Opens l (Whole m used) in
+    let longer = opens_more taken left (Whole k are.0) (λ e. cc) are.1 in
+    let same : Whole k are.0 ≡ Whole m used = opens_one (taken ++ left) (Whole k are.0) (Whole m used) longer (subst P split opens) in
+    let it : k ≡ m = cc in
+    let last : ks ≡ [] = are.3 (ap (λ (r : Request). r.close) it ∙ closes) in
+    inr (rw (it, last) refl)

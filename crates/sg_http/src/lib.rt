@@ -4,7 +4,8 @@
 //! or none and the status that refuses it. `specs/Head.antt` says where a head ends, and `specs/Fields.antt` what its
 //! fields say and which of them refuse it. The one thing that these definitions don't compute is whether some bytes are a
 //! head of the grammar of RFC 9112, for which they cite `httparse`'s. `specs/Streams.antt` lists the messages of a whole
-//! stream.
+//! stream, `specs/Texts.antt` has the texts that are made here, and `specs/Replies.antt` what the bytes of a reply say. The
+//! module `read_back` has the laws that join both sides.
 #![tactic(auto)]
 
 mod fields;
@@ -19,7 +20,7 @@ mod text;
 
 pub use message::{Next, Span, Verb};
 pub use next::{Look, look_at, next_message, one_opening};
-pub use read_back::{replies_read_back, requests_read_back};
+pub use read_back::{one_message, replies_read_back, requests_read_back};
 pub use reading::{ReplyRead, read_reply};
 pub use reply::{Form, ReplyHead, reply_bytes};
 pub use request::request_bytes;

@@ -1,9 +1,10 @@
 // What is made is read as what it is: laws of the definitions, over every text.
-ghost use Rattle.std.specs.Prelude.{◌≡◌, ℕ, ◌<◌, Bool, true, List, [], ◌++◌, length, Option, Some};
+ghost use Rattle.std.specs.Prelude.{◌≡◌, ◌⊎◌, ℕ, ◌<◌, Bool, true, List, [], ◌∷◌, ◌++◌, length, Option, Some};
 ghost use Rattle.sg_http.specs.declared.message.Verb.{Verb};
 ghost use Rattle.sg_http.specs.declared.reply.Form.{Form};
-ghost use Rattle.sg_http.specs.Messages.{Whole, Opens};
+ghost use Rattle.sg_http.specs.Messages.{Request, Whole, Opens};
 ghost use Rattle.sg_http.specs.Replies.{Answer, Part, Reading, Reads};
+ghost use Rattle.sg_http.specs.Streams.{Messages};
 ghost use Rattle.sg_http.specs.Texts.{IsSendable, IsStatus, body_bytes, reply_head, reply_text, request_text};
 
 /// The text of a reply whose body has less than 10,000,000,000 bytes is read back whole, whatever follows it, and a
@@ -43,4 +44,12 @@ pub fn requests_read_back()
           close = true;
         })
         (length (request_text verb path key body))) }
+{}
+
+/// A connection whose bytes begin with a message that asks to close has no other message, however many of its bytes
+/// were taken.
+pub fn one_message()
+    ensures { (stream taken left : List ℕ) (m : Request) (used : ℕ) (ms : List Request)
+        (rest : List ℕ) → Opens stream (Whole m used) → m.close ≡ true
+        → stream ≡ taken ++ left → Messages taken ms rest → (ms ≡ []) ⊎ (ms ≡ m ∷ []) }
 {}

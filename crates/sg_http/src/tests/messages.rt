@@ -1,6 +1,6 @@
 // The rules on messages: one at a time, two at once, and at their limits.
 use super::shown;
-use crate::{Look, Next, Progress, START, look_at, next_message, one_opening};
+use crate::{Look, Next, Progress, START, look_at, next_message, one_message, one_opening};
 use sg_base::limits::{MAX_FIELDS, MAX_HEAD};
 use std::alloc::{AllocError, Global};
 use std::test::Fail;
@@ -259,5 +259,6 @@ fn every_cut_of_a_stream_waits_or_answers_the_same(rt: HostRuntime) -> Result<()
         }
     }
     one_opening();
+    one_message();
     Ok(())
 }

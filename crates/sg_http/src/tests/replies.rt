@@ -1,6 +1,9 @@
 // The texts of replies and requests, and what is read of them.
 use super::{shown, text_at};
-use crate::{Form, ReplyRead, Verb, read_reply, reply_bytes, request_bytes};
+use crate::{
+    Form, ReplyRead, Verb, read_reply, replies_read_back, reply_bytes, request_bytes,
+    requests_read_back,
+};
 use std::alloc::{AllocError, Global};
 use std::test::Fail;
 
@@ -175,5 +178,7 @@ fn a_reply_that_is_cut_is_read_as_cut(rt: HostRuntime) -> Result<(), Fail> {
             assert!(rt; is_cut, "cut at {cut}");
         }
     }
+    replies_read_back();
+    requests_read_back();
     Ok(())
 }
