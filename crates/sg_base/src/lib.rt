@@ -46,7 +46,5 @@ mod row;
 mod search;
 mod sorted;
 mod steps;
-#[cfg(test)]
-mod tests;
 mod time;
 mod zone;

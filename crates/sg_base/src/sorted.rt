@@ -14,9 +14,6 @@ ghost use Rattle.sg_base.specs.Rising.{IsRising, IsFirstFrom, found, put, withou
 use std::alloc::{AllocError, Global};
 use std::marker::Model;
 
-#[cfg(test)]
-mod tests;
-
 /// Where an element stands among others: a number in two parts.
 #[derive(Clone, Copy, Debug, PartialEq, Eq, PartialOrd, Ord, Hash)]
 pub struct Rank {

@@ -2,7 +2,7 @@
 
 ghost use Rattle.std.specs.Prelude.{◌≡◌, ◌<◌};
 
-use crate::{Kind, LimitName, LocalSec, Moment, Rows, Steps};
+use sg_base::{Kind, LimitName, LocalSec, Moment, Rows, Steps};
 use std::marker::Brand;
 use std::sync::ledger::{Blank, Ledger};
 use std::test::Fail;

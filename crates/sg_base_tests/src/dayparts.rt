@@ -1,6 +1,6 @@
 //! Dayparts that are accepted and refused, the first of two faults, and the order of their lists.
 
-use crate::{Daypart, DaypartFault, DaypartId, Window};
+use sg_base::{Daypart, DaypartFault, DaypartId, Window};
 use std::test::Fail;
 
 const DAY: Window = Window {

@@ -2,7 +2,7 @@
 use Rattle.std.proofs.Common.{arith}
 use Rattle.std.proofs.lemmas.List.Elements.{All-push, All-from_recursion, recursion_from_All}
 use Rattle.sg_base.specs.Layout.{HasId}
-use Rattle.sg_base.proofs.tests.layouts.regions_of.Goals as goal
+use Rattle.sg_base_tests.proofs.layouts.regions_of.Goals as goal
 
 pub loop-plan-preserved : goal.loop-plan-preserved
 loop-plan-preserved g c =

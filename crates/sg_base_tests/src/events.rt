@@ -1,6 +1,6 @@
 //! Repeats and events that are accepted and refused, and the first of two faults.
 
-use crate::{
+use sg_base::{
     CampaignId, DaypartId, Event, EventFault, EventId, LayoutFault, LayoutId, Repeat, RepeatFault,
     Target, Unit, When,
 };

@@ -4,7 +4,7 @@ ghost use Rattle.std.specs.Prelude.{◌≡◌, ◌<◌, IfOk};
 ghost use Rattle.std.specs.List.{AllByRecursion};
 ghost use Rattle.sg_base.specs.Layout.{HasId};
 
-use crate::{Item, Layout, LayoutFault, LayoutId, MediaId, Region, Rows};
+use sg_base::{Item, Layout, LayoutFault, LayoutId, MediaId, Region, Rows};
 use std::alloc::{AllocError, Global};
 use std::process::Abort;
 use std::test::Fail;

@@ -2,7 +2,7 @@
 
 ghost use Rattle.sg_base.specs.Keys.{number_of};
 
-use crate::{Key, Rank, Ranked, Sorted, index_of};
+use sg_base::{Key, Rank, Ranked, Sorted, index_of};
 use std::alloc::{AllocError, Global};
 use std::test::Fail;
 

@@ -1,6 +1,6 @@
 //! The server's rows: their kinds, and copies that are equal.
 
-use crate::{
+use sg_base::{
     Campaign, CampaignId, Daypart, DaypartId, DisplayId, DisplayRow, Event, EventId, EventRow,
     GroupId, Kind, LayoutId, Listed, MediaId, Row, Rows, Target, When, Window, ZoneRule,
 };
