@@ -17,7 +17,5 @@ mod dates;
 mod nearest;
 mod periods;
 mod starts;
-#[cfg(test)]
-mod tests;
 mod windows;
 mod zone;

@@ -13,6 +13,3 @@ mod rounds;
 
 pub use hour::{Loop, build_loop, seconds_of, slot_at};
 pub use play::{Interrupt, Play, Slot};
-
-#[cfg(test)]
-mod tests;

@@ -1,8 +1,8 @@
 //! When windows open and close, worked out by hand from day numbers of Python's `datetime`.
 
-use crate::{FIRST_WINDOW, window};
 use sg_base::limits::DATE_END;
 use sg_base::{Daypart, DaypartId, Window};
+use sg_calendar::{FIRST_WINDOW, window};
 use std::alloc::Global;
 use std::process::Abort;
 use std::test::Fail;

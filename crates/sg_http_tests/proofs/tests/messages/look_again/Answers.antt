@@ -1,6 +1,6 @@
 use Rattle.std.proofs.Common.{take, drop, sym, arith}
 use Rattle.std.proofs.lemmas.List.{take-append-drop}
-use Rattle.sg_http.proofs.tests.messages.look_again.Goals as goal
+use Rattle.sg_http_tests.proofs.tests.messages.look_again.Goals as goal
 
 pub look_at-requires-in-InHead : goal.look_at-requires-in-InHead
 look_at-requires-in-InHead c =

@@ -2,9 +2,9 @@
 
 ghost use Rattle.std.specs.Prelude.{◌≡◌, ◌<◌};
 
-use crate::{Picture, Resolver, Show};
 use sg_base::{LocalSec, MediaId, Moment, Steps};
 use sg_manifest::read;
+use sg_resolver::{Picture, Resolver, Show};
 use std::alloc::Global;
 use std::marker::Brand;
 use std::sync::ledger::{Blank, Ledger};

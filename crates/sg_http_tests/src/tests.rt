@@ -1,5 +1,5 @@
 // What messages, replies and readings of replies are, by example. The texts were written by hand after RFC 9112.
-use crate::{Next, Span, next_message};
+use sg_http::{Next, Span, next_message};
 use std::alloc::{AllocError, Global};
 use std::str;
 

@@ -1,4 +1,4 @@
-use Rattle.sg_resolver.proofs.tests.default_layout_among_others.Given as goal
+use Rattle.sg_resolver_tests.proofs.tests.default_layout_among_others.Given as goal
 
 abbrev pub ghosts-shown_at : goal.ghosts-shown_at
 ghosts-shown_at g a = record { name = a.blank.name; parts = a.blank.parts }

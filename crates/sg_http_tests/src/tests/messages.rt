@@ -1,7 +1,7 @@
 // The rules on messages: one at a time, two at once, and at their limits.
 use super::shown;
-use crate::{Look, Next, Progress, START, look_at, next_message, one_message, one_opening};
 use sg_base::limits::{MAX_FIELDS, MAX_HEAD};
+use sg_http::{Look, Next, Progress, START, look_at, next_message, one_message, one_opening};
 use std::alloc::{AllocError, Global};
 use std::test::Fail;
 

@@ -1,7 +1,7 @@
 //! Local seconds by the C library (`TZ=.. date -d @moment`).
 
-use crate::{Zone, ZoneFault};
 use sg_base::{Moment, Rows, ZoneRule};
+use sg_calendar::{Zone, ZoneFault};
 use std::alloc::{AllocError, Global};
 use std::test::Fail;
 

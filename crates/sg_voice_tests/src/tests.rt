@@ -1,5 +1,5 @@
 // Worked hours: what is expected was worked out by hand. One loop is built again and again.
-use crate::{Interrupt, Loop, Play, Slot, build_loop, seconds_of, slot_at};
+use sg_voice::{Interrupt, Loop, Play, Slot, build_loop, seconds_of, slot_at};
 
 const MINUTE: Play = Play {
     event: 1,

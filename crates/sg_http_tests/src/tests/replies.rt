@@ -1,6 +1,6 @@
 // The texts of replies and requests, and what is read of them.
 use super::{shown, text_at};
-use crate::{
+use sg_http::{
     Form, ReplyRead, Verb, read_reply, replies_read_back, reply_bytes, request_bytes,
     requests_read_back,
 };

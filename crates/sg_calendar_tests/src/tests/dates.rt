@@ -4,9 +4,9 @@ ghost use Rattle.std.specs.Prelude.{IfOk};
 ghost use Rattle.sg_calendar.specs.Dates.{IsNamed};
 
 use super::{Parts, repeat_of};
-use crate::{next_date, on_date};
 use sg_base::limits::{DATE_END, FIRST_DATE};
 use sg_base::{DaypartId, Event, EventFault, EventId, LayoutId, Repeat, Target, Unit, When};
+use sg_calendar::{next_date, on_date};
 use std::process::Abort;
 use std::test::Fail;
 

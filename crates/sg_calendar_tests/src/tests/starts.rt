@@ -1,9 +1,9 @@
 //! The latest and the next start round a second, among starts counted one by one with Python's `datetime`.
 
 use super::{Parts, repeat_of};
-use crate::{latest_start, next_start};
 use sg_base::limits::{FIRST_LOCAL, LOCAL_END, TIME_END};
 use sg_base::{LocalSec, Unit, When};
+use sg_calendar::{latest_start, next_start};
 use std::process::Abort;
 use std::test::Fail;
 
