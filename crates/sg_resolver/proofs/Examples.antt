@@ -8,7 +8,7 @@ use Rattle.sg_base.specs.declared.event.Target.{Target}
 use Rattle.sg_base.specs.declared.event.Target.TheVariants.{Layout, Campaign}
 use Rattle.sg_base.specs.declared.zone.ZoneRule.TheVariants.{Offset}
 use Rattle.sg_base.specs.Layout.{LayoutRow}
-use Rattle.sg_base.specs.Event.{EventRow}
+use Rattle.sg_base.specs.Event.{EventValue}
 use Rattle.sg_events.specs.Active.{any_below}
 use Rattle.sg_voice.specs.Hour.{interrupt_plays, normal_count}
 use Rattle.sg_manifest.specs.Snapshot.{SnapshotRow}
@@ -30,23 +30,24 @@ two_regions = record {
 }
 
 -- layouts of 10 s, 20 s, 30 s and a minute and that of two regions, a campaign of two of them, and a daypart from 8 to 10
-abbrev ruled : ℤ → ℕ → List EventRow → SnapshotRow
+abbrev ruled : ℤ → ℕ → List EventValue → SnapshotRow
 ruled minutes first events = record {
   zone = Offset minutes;
   default = record { 0 = first };
   layouts = plain 1 10 ∷ plain 2 20 ∷ plain 3 30 ∷ plain 4 60 ∷ two_regions ∷ [];
   campaigns = (record { id = record { 0 = 7 }; layouts = (record { 0 = 3 }) ∷ (record { 0 = 2 }) ∷ [] }) ∷ [];
-  dayparts = (record { id = record { 0 = 8 }; window = record { start = 28800; end = 36000 }; exceptions = [] }) ∷ [];
+  dayparts = (record { id = record { 0 = 8 }; window = record { start = 28800; end = 36000 }; exceptions = []; dates = [] }) ∷ [];
   events = events;
   files = [];
 }
 
-abbrev with : List EventRow → SnapshotRow
+abbrev with : List EventValue → SnapshotRow
 with events = ruled (pos 0) 1 events
 
-abbrev event : ℕ → Target → When → ℕ → ℕ → ℕ → EventRow
+abbrev event : ℕ → Target → When → ℕ → ℕ → ℕ → EventValue
 event id target when order priority share = record {
   id = record { 0 = id };
+  layer = 0;
   target = target;
   when = when;
   repeat = None;

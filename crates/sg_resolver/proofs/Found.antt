@@ -4,12 +4,13 @@ use Rattle.std.proofs.lemmas.Bool.{eq-eqb, ne_eqb, cases_Bool}
 use Rattle.std.proofs.lemmas.List.{length-map, get_or-map}
 use Rattle.std.proofs.lemmas.List.Elements.{All-from_recursion}
 use Rattle.std.proofs.lemmas.List.Kept.{AllPairs-from_increasing}
-use Rattle.std.specs.List.Sorted.{IsStrictlyIncreasing}
+use Rattle.std.specs.List.Sorted.{IsStrictlyIncreasing, IsNonDecreasing}
 use Rattle.std.specs.List.{AllByRecursion, find, Contains}
 use Rattle.sg_base.specs.declared.campaign.Campaign.{Campaign as CampaignRow}
 use Rattle.sg_base.proofs.FaultLemmas.{if_none}
-use Rattle.sg_manifest.specs.Place.{IsPlaceOf}
+use Rattle.sg_base.specs.Index.{IsIndexOf}
 use Rattle.sg_rows.specs.Rows.{IsCampaignRow}
+use Rattle.std.proofs.lemmas.Bool.{cases_lt}
 
 -- a row whose id stands at a place among the ids is found
 missing_at : {X : Type 0} (number : X → ℕ) (xs : List X) (id k : ℕ) → k < length xs → get_or (map number xs) k id ≡ id → find (λ x. eqb (number x) id) xs ≡ None → ⊥
@@ -44,6 +45,14 @@ rises number xs up i j d less inside =
     let here : i < length xs = omega arith in
     rw (get_or-map number xs i d (number d) here, get_or-map number xs j d (number d) inside) at pairs
 
+-- ids that rise don't fall
+pub ids_ordered : {X : Type 0} (number : X → ℕ) (xs : List X) (ids : List ℕ) → ids ≡ map number xs → IsStrictlyIncreasing (map number xs) → IsNonDecreasing ids
+ids_ordered number xs ids are up = rw are (λ i j d le inside.
+    elim (cases_lt i j) [
+      | inl less ↦ omega (arith, AllPairs-from_increasing (map number xs) up i j d less inside)
+      | inr more ↦ let same : i ≡ j = omega arith in rw same (omega arith)
+    ])
+
 -- a row is found where those before it have other ids
 found_here : {X : Type 0} (number : X → ℕ) (xs : List X) (id k : ℕ) (x : X) → k < length xs → x ≡ get_or xs k x → ((i : ℕ) → i < k → eqb (number (get_or xs i x)) id ≡ false) → number x ≡ id → find (λ y. eqb (number y) id) xs ≡ Some x
 found_here number [] id k x inside is others same = absurd (omega arith)
@@ -67,22 +76,22 @@ found_place number xs id k x up inside is same =
     found_here number xs id k x inside is (λ i less. ne_eqb (number (get_or xs i x)) id (λ e. omega (arith, rises number xs up i k x less inside, e, same, ap number is))) same
 
 -- what a place among the ids says of the row that is found
-pub found_at : {X : Type 0} (number : X → ℕ) (xs : List X) (ids : List ℕ) (id k : ℕ) (x : X) → ids ≡ map number xs → IsStrictlyIncreasing (map number xs) → IsPlaceOf ids id (Some k) → x ≡ get_or xs k x → find (λ y. eqb (number y) id) xs ≡ Some x
+pub found_at : {X : Type 0} (number : X → ℕ) (xs : List X) (ids : List ℕ) (id k : ℕ) (x : X) → ids ≡ map number xs → IsStrictlyIncreasing (map number xs) → IsIndexOf ids id (Some k) → x ≡ get_or xs k x → find (λ y. eqb (number y) id) xs ≡ Some x
 found_at number xs ids id k x are up place is =
-    let here : IsPlaceOf (map number xs) id (Some k) = rw are at place in
+    let here : IsIndexOf (map number xs) id (Some k) = rw are at place in
     let inside : k < length xs = omega (arith, here.0, length-map xs number) in
     let same : number x ≡ id = ap number is ∙ (sym (get_or-map number xs k x 0 inside) ∙ here.1) in
     found_place number xs id k x up inside is same
 
 -- where a number is not among the ids, no row is found
-pub none_found : {X : Type 0} (number : X → ℕ) (xs : List X) (ids : List ℕ) (id : ℕ) → ids ≡ map number xs → IsPlaceOf ids id None → find (λ y. eqb (number y) id) xs ≡ None
+pub none_found : {X : Type 0} (number : X → ℕ) (xs : List X) (ids : List ℕ) (id : ℕ) → ids ≡ map number xs → IsIndexOf ids id None → find (λ y. eqb (number y) id) xs ≡ None
 none_found number xs ids id are missing =
     none_here number xs id (λ i d inside. ne_eqb (number (get_or xs i d)) id (λ e.
     let there : Contains (map number xs) id = (i, omega (arith, inside, length-map xs number), get_or-map number xs i d id inside ∙ e) in
     missing (rw are there)))
 
 -- a place among the ids is a place among the rows
-place_inside : {X : Type 0} (number : X → ℕ) (xs : List X) (ids : List ℕ) (id k : ℕ) → ids ≡ map number xs → IsPlaceOf ids id (Some k) → k < length xs
+place_inside : {X : Type 0} (number : X → ℕ) (xs : List X) (ids : List ℕ) (id k : ℕ) → ids ≡ map number xs → IsIndexOf ids id (Some k) → k < length xs
 place_inside number xs ids id k are place = omega (arith, ap (λ (ns : List ℕ). length ns) are, length-map xs number, place.0)
 
 told_here : {X : Type 0} (number told : X → ℕ) (F : Option X → ℕ) → ((x : X) → F (Some x) ≡ told x) → (xs : List X) (id k d : ℕ) → ((i j : ℕ) (e : X) → i < j → j < length xs → number (get_or xs i e) < number (get_or xs j e)) → k < length xs → get_or (map number xs) k 0 ≡ id → F (find (λ y. eqb (number y) id) xs) ≡ get_or (map told xs) k d
@@ -98,13 +107,13 @@ told_here number told F is (x ∷ xs) id (suc k) d up inside same =
     rw miss (told_here number told F is xs id k d (λ i j e l n. up (suc i) (suc j) e (omega (arith, l)) (omega (arith, n))) here same)
 
 -- what is told of each row, read at the place of the row that is found
-pub told_at : {X : Type 0} (number told : X → ℕ) (F : Option X → ℕ) → ((x : X) → F (Some x) ≡ told x) → (xs : List X) (ids : List ℕ) (id k d : ℕ) → ids ≡ map number xs → IsStrictlyIncreasing (map number xs) → IsPlaceOf ids id (Some k) → F (find (λ y. eqb (number y) id) xs) ≡ get_or (map told xs) k d
+pub told_at : {X : Type 0} (number told : X → ℕ) (F : Option X → ℕ) → ((x : X) → F (Some x) ≡ told x) → (xs : List X) (ids : List ℕ) (id k d : ℕ) → ids ≡ map number xs → IsStrictlyIncreasing (map number xs) → IsIndexOf ids id (Some k) → F (find (λ y. eqb (number y) id) xs) ≡ get_or (map told xs) k d
 told_at number told F is xs ids id k d are up place =
-    let here : IsPlaceOf (map number xs) id (Some k) = rw are at place in
+    let here : IsIndexOf (map number xs) id (Some k) = rw are at place in
     told_here number told F is xs id k d (rises number xs up) (omega (arith, here.0, length-map xs number)) here.1
 
 -- a campaign at a place has at most 64 layouts
-pub few_at : (cs : List CampaignRow) (ids : List ℕ) (id k : ℕ) (x : CampaignRow) → AllByRecursion IsCampaignRow cs → ids ≡ map (λ c. c.id.0) cs → IsPlaceOf ids id (Some k) → x ≡ get_or cs k x → length x.layouts ≤ 64
+pub few_at : (cs : List CampaignRow) (ids : List ℕ) (id k : ℕ) (x : CampaignRow) → AllByRecursion IsCampaignRow cs → ids ≡ map (λ c. c.id.0) cs → IsIndexOf ids id (Some k) → x ≡ get_or cs k x → length x.layouts ≤ 64
 few_at cs ids id k x rows are place is =
     let inside : k < length cs = place_inside (λ (c : CampaignRow). c.id.0) cs ids id k are place in
     let row : IsCampaignRow x = subst IsCampaignRow (sym is) (All-from_recursion IsCampaignRow cs rows k x inside) in

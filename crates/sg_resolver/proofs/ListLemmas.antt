@@ -2,7 +2,7 @@
 use Rattle.std.proofs.Common.{◌≡◌, ℕ, ◌+◌, ◌<◌, Bool, true, cond, eqb, List, [], ◌∷◌, length, drop, get_or, filter, refl, sym, subst, inl, inr, arith, add-one, drop-cons}
 use Rattle.std.specs.List.{AllByRecursion, flat_map}
 use Rattle.std.proofs.lemmas.Bool.{cases_Bool, cases_lt, eq-eqb}
-use Rattle.sg_base.specs.Event.{EventRow}
+use Rattle.sg_base.specs.Event.{EventValue}
 use Rattle.sg_manifest.specs.Snapshot.{SnapshotRow}
 use Rattle.sg_resolver.specs.Lists.{greatest_priority, highest, plays_of, plays_or_default}
 
@@ -21,13 +21,13 @@ all_passing P Q p (x ∷ xs) tells all =
     ]
 
 -- of some events one has the greatest priority
-attained : (e : EventRow) (es : List EventRow) (g : ℕ) → g ≡ greatest_priority (e ∷ es) → 0 < length (filter (λ f. eqb f.priority g) (e ∷ es))
+attained : (e : EventValue) (es : List EventValue) (g : ℕ) → g ≡ greatest_priority (e ∷ es) → 0 < length (filter (λ f. eqb f.priority g) (e ∷ es))
 attained e [] g is =
     let C : Bool → Type 0 = λ b. 0 < length (cond b (e ∷ []) []) in
     let same : e.priority ≡ g = omega arith in
     subst C (sym (eq-eqb e.priority g same)) (omega arith)
 attained e (f ∷ fs) g is =
-    let rest : List EventRow = filter (λ h. eqb h.priority g) (f ∷ fs) in
+    let rest : List EventValue = filter (λ h. eqb h.priority g) (f ∷ fs) in
     let C : Bool → Type 0 = λ b. 0 < length (cond b (e ∷ rest) rest) in
     elim (cases_lt e.priority (greatest_priority (f ∷ fs))) [
       | inl less ↦
@@ -41,14 +41,14 @@ attained e (f ∷ fs) g is =
           subst C (sym (eq-eqb e.priority g same)) (omega arith)
     ]
 
-pub highest_some : (es : List EventRow) → 0 < length es → 0 < length (highest es)
+pub highest_some : (es : List EventValue) → 0 < length es → 0 < length (highest es)
 highest_some [] some = absurd (omega arith)
 highest_some (e ∷ es) some = attained e es (greatest_priority (e ∷ es)) refl
 
-plays_some : (s : SnapshotRow) (es : List EventRow) → 0 < length es → plays_or_default s es ≡ flat_map (plays_of s) es
+plays_some : (s : SnapshotRow) (es : List EventValue) → 0 < length es → plays_or_default s es ≡ flat_map (plays_of s) es
 plays_some s [] some = absurd (omega arith)
 plays_some s (e ∷ es) some = refl
 
 -- where there is an event, no default layout is shown
-pub plays_highest : (s : SnapshotRow) (es : List EventRow) (top : ℕ) → 0 < length es → top ≡ greatest_priority es → flat_map (plays_of s) (filter (λ e. eqb e.priority top) es) ≡ plays_or_default s (highest es)
+pub plays_highest : (s : SnapshotRow) (es : List EventValue) (top : ℕ) → 0 < length es → top ≡ greatest_priority es → flat_map (plays_of s) (filter (λ e. eqb e.priority top) es) ≡ plays_or_default s (highest es)
 plays_highest s es top some is = rw is (sym (plays_some s (highest es) (highest_some es some)))

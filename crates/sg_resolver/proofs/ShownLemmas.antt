@@ -4,7 +4,7 @@ use Rattle.std.specs.List.{Contains}
 use Rattle.std.proofs.lemmas.Bool.{cases_lt, lt-ltb, ne_eqb}
 use Rattle.std.specs.Prelude.{ℤ}
 use Rattle.std.proofs.lemmas.List.Filters.{length-filter_both}
-use Rattle.sg_base.specs.Event.{EventRow}
+use Rattle.sg_base.specs.Event.{EventValue}
 use Rattle.sg_voice.specs.declared.play.Play.{Play}
 use Rattle.sg_voice.specs.declared.play.Interrupt.{Interrupt}
 use Rattle.sg_voice.specs.declared.play.Slot.{Slot}
@@ -57,5 +57,5 @@ share_tests n =
     ]
 
 -- each event is a normal one or an interrupt
-pub steps_of : (es : List EventRow) → length (filter (λ e. e.share == 0) es) + length (filter (λ e. nat_lt 0 e.share) es) ≡ length es
-steps_of es = length-filter_both (λ (e : EventRow). e.share == 0) (λ e. nat_lt 0 e.share) (λ e. share_tests e.share) es
+pub steps_of : (es : List EventValue) → length (filter (λ e. e.share == 0) es) + length (filter (λ e. nat_lt 0 e.share) es) ≡ length es
+steps_of es = length-filter_both (λ (e : EventValue). e.share == 0) (λ e. nat_lt 0 e.share) (λ e. share_tests e.share) es

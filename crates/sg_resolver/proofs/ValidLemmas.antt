@@ -13,7 +13,7 @@ use Rattle.sg_base.specs.declared.event.EventFault.{EventFault}
 use Rattle.sg_base.specs.declared.event.EventFault.TheVariants.{BigNumber, BigShare, InterruptCampaign}
 use Rattle.sg_base.specs.Faults.{first_of}
 use Rattle.sg_base.specs.Layout.{LayoutRow, longest}
-use Rattle.sg_base.specs.Event.{EventRow, IsEvent, is_campaign, numbers_fault, time_fault, repeat_fault}
+use Rattle.sg_base.specs.Event.{EventValue, IsEvent, is_campaign, numbers_fault, time_fault, repeat_fault, layer_fault}
 use Rattle.sg_base.proofs.FaultLemmas.{first_none, if_none}
 use Rattle.sg_base.proofs.LayoutLemmas.{HasBounds, layout_bounds}
 use Rattle.sg_voice.specs.declared.play.Play.{Play}
@@ -42,11 +42,11 @@ pub record IsKnownInterrupt (s : SnapshotRow) (i : Interrupt) : Type 0 where
   pub there : Contains (layout_ids s) i.layout
 
 -- an event whose row is valid and whose target is there
-pub record IsKnownEvent (s : SnapshotRow) (e : EventRow) : Type 0 where
+pub record IsKnownEvent (s : SnapshotRow) (e : EventValue) : Type 0 where
   pub row : IsEventRow e
   pub target : HasTarget s e.target
 
-all_known : (s : SnapshotRow) (es : List EventRow) → AllByRecursion IsEventRow es → AllByRecursion (λ e. HasTarget s e.target) es → AllByRecursion (IsKnownEvent s) es
+all_known : (s : SnapshotRow) (es : List EventValue) → AllByRecursion IsEventRow es → AllByRecursion (λ e. HasTarget s e.target) es → AllByRecursion (IsKnownEvent s) es
 all_known s [] rows targets = tt
 all_known s (e ∷ es) rows targets = (record { row = rows.0; target = targets.0 }, all_known s es rows.1 targets.1)
 
@@ -95,23 +95,23 @@ length_plays : (s : SnapshotRow) (event : ℕ) (ls : List LayoutId) → length (
 length_plays s event [] = refl
 length_plays s event (l ∷ ls) = omega (arith, length_plays s event ls)
 
-flat_known : (s : SnapshotRow) → IsSnapshot s → (es : List EventRow) → AllByRecursion (IsKnownEvent s) es → AllByRecursion (IsKnown s) (flat_map (plays_of s) es)
+flat_known : (s : SnapshotRow) → IsSnapshot s → (es : List EventValue) → AllByRecursion (IsKnownEvent s) es → AllByRecursion (IsKnown s) (flat_map (plays_of s) es)
 flat_known s v [] all = tt
 flat_known s v (e ∷ es) all =
     all_append (IsKnown s) (plays_of s e) (flat_map (plays_of s) es) (layouts_known s v e.id.0 (shown_by s e.target) (shown_known s v e.target all.0.target)) (flat_known s v es all.1)
 
-or_default_known : (s : SnapshotRow) → IsSnapshot s → (es : List EventRow) → AllByRecursion (IsKnownEvent s) es → AllByRecursion (IsKnown s) (plays_or_default s es)
+or_default_known : (s : SnapshotRow) → IsSnapshot s → (es : List EventValue) → AllByRecursion (IsKnownEvent s) es → AllByRecursion (IsKnown s) (plays_or_default s es)
 or_default_known s v [] all = (play_known s v 0 s.default v.named.default, tt)
 or_default_known s v (e ∷ es) all = flat_known s v (e ∷ es) all
 
-or_default_some : (s : SnapshotRow) → IsSnapshot s → (es : List EventRow) → AllByRecursion (IsKnownEvent s) es → 0 < length (plays_or_default s es)
+or_default_some : (s : SnapshotRow) → IsSnapshot s → (es : List EventValue) → AllByRecursion (IsKnownEvent s) es → 0 < length (plays_or_default s es)
 or_default_some s v [] all = omega arith
 or_default_some s v (e ∷ es) all =
     omega (arith, length-append (plays_of s e) (flat_map (plays_of s) es), length_plays s e.id.0 (shown_by s e.target), shown_some s v e.target all.0.target)
 
 normal_events_known : (s : SnapshotRow) (t : ℤ) → IsSnapshot s → AllByRecursion (IsKnownEvent s) (normal_events s t)
 normal_events_known s t v =
-    let p : EventRow → Bool = λ e. eqb e.share 0 && is_active s t e in
+    let p : EventValue → Bool = λ e. eqb e.share 0 && is_active s t e in
     let active = all_passing (IsKnownEvent s) (IsKnownEvent s) p (in_order s.events) (λ e q h. h) (all_order (IsKnownEvent s) s.events (events_known s v)) in
     all_passing (IsKnownEvent s) (IsKnownEvent s) (λ e. eqb e.priority (greatest_priority (filter p (in_order s.events)))) (filter p (in_order s.events)) (λ e q h. h) active
 
@@ -128,7 +128,7 @@ plays_valid s (p ∷ ps) all = (all.0.play, plays_valid s ps all.1)
 -- ---- The interrupts ----
 
 -- an interrupt's share is at most an hour, and it shows a layout
-record HasShare (e : EventRow) : Type 0 where
+record HasShare (e : EventValue) : Type 0 where
   few : e.share ≤ 3600
   layout : is_campaign e.target ≡ false
 
@@ -136,9 +136,9 @@ second_false : (a b : Bool) → a ≡ true → (a && b) ≡ false → b ≡ fals
 second_false true b holds fails = fails
 second_false false b holds fails = absurd (cc)
 
-share_of : (e : EventRow) → IsEvent e → nat_lt 0 e.share ≡ true → HasShare e
+share_of : (e : EventValue) → IsEvent e → nat_lt 0 e.share ≡ true → HasShare e
 share_of e h shared =
-    let own = first_none (numbers_fault e.target e.order e.priority e.share) (first_of (time_fault e.when) (repeat_fault e.when e.repeat)) h.sound in
+    let own = first_none (numbers_fault e.target e.order e.priority e.share) (first_of (time_fault e.when) (first_of (repeat_fault e.when e.repeat) (layer_fault e.layer e.target e.share))) h.sound in
     let last : Option EventFault = if nat_lt 0 e.share && is_campaign e.target then Some InterruptCampaign else None in
     let numbers = if_none (nat_lt 65535 e.order || nat_lt 65535 e.priority) BigNumber (if nat_lt 3600 e.share then Some BigShare else last) own.0 in
     let share = if_none (nat_lt 3600 e.share) BigShare last numbers.1 in
@@ -150,7 +150,7 @@ layout_there : (s : SnapshotRow) (target : Target) → is_campaign target ≡ fa
 layout_there s (Layout id) is there = there
 layout_there s (Campaign id) is there = absurd (cc)
 
-interrupt_known : (s : SnapshotRow) → IsSnapshot s → (e : EventRow) → IsKnownEvent s e → nat_lt 0 e.share ≡ true → IsKnownInterrupt s (interrupt_of s e)
+interrupt_known : (s : SnapshotRow) → IsSnapshot s → (e : EventValue) → IsKnownEvent s e → nat_lt 0 e.share ≡ true → IsKnownInterrupt s (interrupt_of s e)
 interrupt_known s v e h shared =
     let own : HasShare e = share_of e h.row.accepted shared in
     let there = layout_there s e.target own.layout h.target in
@@ -161,7 +161,7 @@ interrupt_known s v e h shared =
     }
 
 -- an event of a share is known
-record IsSharing (s : SnapshotRow) (e : EventRow) : Type 0 where
+record IsSharing (s : SnapshotRow) (e : EventValue) : Type 0 where
   known : IsKnownEvent s e
   shared : nat_lt 0 e.share ≡ true
 
@@ -169,13 +169,13 @@ first_true : (a b : Bool) → (a && b) ≡ true → a ≡ true
 first_true true b h = refl
 first_true false b h = h
 
-all_interrupts : (s : SnapshotRow) → IsSnapshot s → (es : List EventRow) → AllByRecursion (IsSharing s) es → AllByRecursion (IsKnownInterrupt s) (map (interrupt_of s) es)
+all_interrupts : (s : SnapshotRow) → IsSnapshot s → (es : List EventValue) → AllByRecursion (IsSharing s) es → AllByRecursion (IsKnownInterrupt s) (map (interrupt_of s) es)
 all_interrupts s v [] all = tt
 all_interrupts s v (e ∷ es) all = (interrupt_known s v e all.0.known all.0.shared, all_interrupts s v es all.1)
 
 pub interrupts_known : (s : SnapshotRow) (t : ℤ) → IsSnapshot s → AllByRecursion (IsKnownInterrupt s) (interrupts s t)
 interrupts_known s t v =
-    let p : EventRow → Bool = λ e. nat_lt 0 e.share && is_active s t e in
+    let p : EventValue → Bool = λ e. nat_lt 0 e.share && is_active s t e in
     let active = all_passing (IsKnownEvent s) (IsSharing s) p s.events (λ e q h. record { known = h; shared = first_true (nat_lt 0 e.share) (is_active s t e) q }) (events_known s v) in
     all_interrupts s v (interrupt_events s t) (all_passing (IsSharing s) (IsSharing s) (λ e. eqb e.priority (greatest_priority (filter p s.events))) (filter p s.events) (λ e q h. h) active)
 

@@ -3,6 +3,7 @@ use Rattle.std.specs.Prelude.{◌≡◌, ℕ, ◌+◌, ◌-◌, ◌<◌, ◌≤�
 use Rattle.std.specs.Int.{int_rem_euclid}
 use Rattle.sg_base.specs.declared.ids.MediaId.{MediaId}
 use Rattle.sg_base.specs.Layout.{medium_at}
+use Rattle.sg_base.specs.declared.limits.TheConstants.{HOUR}
 use Rattle.sg_calendar.specs.declared.zone.ZoneFault.{ZoneFault}
 use Rattle.sg_calendar.specs.Zone.{ZoneView, zone_of, local_at}
 use Rattle.sg_voice.specs.declared.play.Slot.{Slot}
@@ -23,7 +24,7 @@ local_of s m = local_by (zone_of s.zone) m
 
 -- the second of its hour at which a local second stands, 0 to 3,599
 abbrev pub place_of : ℤ → ℕ
-place_of t = unsigned_abs (int_rem_euclid t (pos 3600))
+place_of t = unsigned_abs (int_rem_euclid t (pos HOUR))
 
 -- the slot that covers a local second, in the hour's loop built from the lists at that second
 unfoldable pub slot_at : SnapshotRow → ℤ → Slot

@@ -4,8 +4,9 @@ ghost use Rattle.std.specs.Prelude.{◌≡◌, ◌==◌, ◌≤◌, List, ℕ, l
 ghost use Rattle.sg_base.specs.Layout.{longest};
 ghost use Rattle.sg_resolver.specs.Rows.{regions_of};
 
-use sg_base::{Campaign, Daypart, Layout};
-use sg_manifest::{Snapshot, place_among};
+use sg_base::limits::MAX_CAMPAIGN_LAYOUTS;
+use sg_base::{Campaign, Daypart, Layout, index_of};
+use sg_manifest::Snapshot;
 use std::alloc::{AllocError, Global};
 use std::marker::Model;
 
@@ -62,7 +63,7 @@ impl Catalog {
     pub(crate) fn layout(&self, id: u32) -> Option<&Layout>
         ensures { option_copied result ≡ find (λ l. l.id.0 == id) self.now.layouts }
     {
-        match place_among(self.layouts.as_slice(), id) {
+        match index_of(self.layouts.as_slice(), id) {
             Some(place) => Some(&self.snapshot.layouts()[place]),
             None => None,
         }
@@ -72,7 +73,7 @@ impl Catalog {
     pub(crate) fn seconds(&self, id: u32) -> u32
         ensures { result ≡ longest (regions_of self.now id) }
     {
-        match place_among(self.layouts.as_slice(), id) {
+        match index_of(self.layouts.as_slice(), id) {
             Some(place) => self.seconds[place],
             None => 0,
         }
@@ -81,9 +82,9 @@ impl Catalog {
     /// The campaign with this id. It has at most 64 layouts.
     pub(crate) fn campaign(&self, id: u32) -> Option<&Campaign>
         ensures value { option_copied result ≡ find (λ c. c.id.0 == id) self.now.campaigns }
-        ensures few { IfSome result (λ c. length c.now.layouts ≤ 64) }
+        ensures few { IfSome result (λ c. length c.now.layouts ≤ MAX_CAMPAIGN_LAYOUTS) }
     {
-        match place_among(self.campaigns.as_slice(), id) {
+        match index_of(self.campaigns.as_slice(), id) {
             Some(place) => Some(&self.snapshot.campaigns()[place]),
             None => None,
         }
@@ -93,7 +94,7 @@ impl Catalog {
     pub(crate) fn daypart(&self, id: u32) -> Option<&Daypart>
         ensures { option_copied result ≡ find (λ d. d.id.0 == id) self.now.dayparts }
     {
-        match place_among(self.dayparts.as_slice(), id) {
+        match index_of(self.dayparts.as_slice(), id) {
             Some(place) => Some(&self.snapshot.dayparts()[place]),
             None => None,
         }

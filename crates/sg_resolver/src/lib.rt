@@ -18,3 +18,5 @@ mod order;
 mod picture;
 mod resolver;
 mod show;
+#[cfg(test)]
+mod tests;

@@ -3,22 +3,24 @@
 //! Nothing here takes memory: each list is put in room that a resolver has taken. No clause that others see
 //! names these functions.
 
-ghost use Rattle.std.specs.Prelude.{◌≡◌, ◌==◌, ◌&&◌, ℕ, ◌+◌, ◌*◌, ◌<◌, ◌≤◌, List, [], ◌∷◌, ◌++◌, length, map, filter, nat_lt, vec_len, vec_capacity, pos, neg_ℤ, ◌≤ℤ◌, ◌<ℤ◌};
+ghost use Rattle.std.specs.Prelude.{◌≡◌, ◌==◌, ◌&&◌, ℕ, ◌+◌, ◌*◌, ◌<◌, ◌≤◌, List, [], ◌∷◌, ◌++◌, length, map, filter, nat_lt, vec_len, vec_capacity};
 ghost use Rattle.std.specs.List.{flat_map};
-ghost use Rattle.sg_base.specs.Event.{EventRow};
+ghost use Rattle.sg_base.specs.Event.{EventValue};
+ghost use Rattle.sg_base.specs.Seconds.{IsAskable};
 ghost use Rattle.sg_voice.specs.declared.play.Play.{Play};
 ghost use Rattle.sg_resolver.specs.Front.{Leads, IsFront};
 ghost use Rattle.sg_resolver.specs.Kind.{is_of, is_listed};
 ghost use Rattle.sg_resolver.specs.Lists.{is_active, greatest_priority, highest, in_order, play_of, plays_of, plays_or_default, normal_plays, interrupt_of, target_layout, interrupts as interrupts_at};
 
 use crate::catalog::Catalog;
+use sg_base::limits::{HOUR, MAX_CAMPAIGN_LAYOUTS};
 use sg_base::{Event, EventId, LayoutId, LocalSec, Steps, Target, When};
 use sg_events::active;
 use sg_voice::{Interrupt, Play};
 use std::sync::ledger::Ledger;
 
 /// The most plays that an hour shows: no play is shorter than a second.
-const MOST: usize = 3600;
+const MOST: usize = HOUR as usize;
 
 /// The two kinds of event: an interrupt has a share of voice.
 #[derive(Clone, Copy, Debug, PartialEq, Eq)]
@@ -51,8 +53,7 @@ fn has_kind(event: &Event, kind: Kind) -> bool
 
 // Whether an event is active, which counts at most a step. Each daypart that an event names is there.
 fn is_on<L: Ledger>(s: &Catalog, event: &Event, t: LocalSec, steps: &mut Steps<L>) -> bool
-    requires low { neg_ℤ (pos 93599) ≤ℤ t }
-    requires high { t <ℤ pos 4102704000 }
+    requires second { IsAskable t }
     ensures value { result ≡ is_active s.now t event.now }
     ensures ticks { steps.new ≤ steps.old + 1 }
 {
@@ -74,15 +75,14 @@ fn offer<L: Ledger>(
     steps: &mut Steps<L>,
     listed: &mut Vec<Event>,
 )
-    requires low { neg_ℤ (pos 93599) ≤ℤ t }
-    requires high { t <ℤ pos 4102704000 }
+    requires second { IsAskable t }
     requires room { vec_len listed.old < vec_capacity listed.old }
-    ensures items { (rest : List EventRow) →
+    ensures items { (rest : List EventValue) →
         listed.new.items ++ filter (λ e. is_listed s.now t kind e) rest
         ≡ listed.old.items ++ filter (λ e. is_listed s.now t kind e) (event.now ∷ rest) }
     ensures few { vec_len listed.new ≤ vec_len listed.old + 1 }
     ensures room { vec_capacity listed.old ≤ vec_capacity listed.new }
-    ensures ticks { (rest : List EventRow) →
+    ensures ticks { (rest : List EventValue) →
         steps.new + length (filter (λ e. is_of kind e) rest)
         ≤ steps.old + length (filter (λ e. is_of kind e) (event.now ∷ rest)) }
 {
@@ -104,8 +104,7 @@ fn list_active<L: Ledger>(
     steps: &mut Steps<L>,
     listed: &mut Vec<Event>,
 )
-    requires low { neg_ℤ (pos 93599) ≤ℤ t }
-    requires high { t <ℤ pos 4102704000 }
+    requires second { IsAskable t }
     requires room { length events.now ≤ vec_capacity listed.old }
     ensures items { listed.new.items ≡ filter (λ e. is_listed s.now t kind e) events.now }
     ensures few { vec_len listed.new ≤ length events.now }
@@ -153,9 +152,9 @@ fn add_layouts(s: &Catalog, event: u32, layouts: &[LayoutId], plays: &mut Vec<Pl
 
 // Appends the plays of an event.
 fn add_plays(s: &Catalog, event: &Event, plays: &mut Vec<Play>)
-    requires room { vec_len plays.old + 64 ≤ vec_capacity plays.old }
+    requires room { vec_len plays.old + MAX_CAMPAIGN_LAYOUTS ≤ vec_capacity plays.old }
     ensures items { plays.new.items ≡ plays.old.items ++ plays_of s.now event.now }
-    ensures few { vec_len plays.new ≤ vec_len plays.old + 64 }
+    ensures few { vec_len plays.new ≤ vec_len plays.old + MAX_CAMPAIGN_LAYOUTS }
     ensures room { vec_capacity plays.old ≤ vec_capacity plays.new }
 {
     let id = event.id().0;
@@ -170,11 +169,11 @@ fn add_plays(s: &Catalog, event: &Event, plays: &mut Vec<Play>)
 
 // Appends the plays of an event, if it has a priority and an hour isn't full of plays already.
 fn offer_plays(s: &Catalog, event: &Event, top: u32, plays: &mut Vec<Play>)
-    requires room { vec_len plays.old + 64 ≤ vec_capacity plays.old }
-    ensures items { (rest : List EventRow) (all : List Play) →
+    requires room { vec_len plays.old + MAX_CAMPAIGN_LAYOUTS ≤ vec_capacity plays.old }
+    ensures items { (rest : List EventValue) (all : List Play) →
         Leads plays.old.items (flat_map (plays_of s.now) (filter (λ e. e.priority == top) (event.now ∷ rest))) all
         → Leads plays.new.items (flat_map (plays_of s.now) (filter (λ e. e.priority == top) rest)) all }
-    ensures few { vec_len plays.new ≤ vec_len plays.old + 64 }
+    ensures few { vec_len plays.new ≤ vec_len plays.old + MAX_CAMPAIGN_LAYOUTS }
     ensures room { vec_capacity plays.old ≤ vec_capacity plays.new }
 {
     if plays.len() >= MOST {
@@ -189,7 +188,7 @@ fn offer_plays(s: &Catalog, event: &Event, top: u32, plays: &mut Vec<Play>)
 // Lists the plays of the events of the greatest priority among some, or that of the default layout where
 // there is no event. The hour bounds how many plays are listed.
 fn list_plays(s: &Catalog, events: &[Event], plays: &mut Vec<Play>)
-    requires room { 64 * length events.now + 1 ≤ vec_capacity plays.old }
+    requires room { MAX_CAMPAIGN_LAYOUTS * length events.now + 1 ≤ vec_capacity plays.old }
     ensures items { IsFront plays.new.items (plays_or_default s.now (highest events.now)) }
     ensures room { vec_capacity plays.old ≤ vec_capacity plays.new }
 {
@@ -214,11 +213,10 @@ pub(crate) fn list_normal<L: Ledger>(
     listed: &mut Vec<Event>,
     plays: &mut Vec<Play>,
 )
-    requires low { neg_ℤ (pos 93599) ≤ℤ t }
-    requires high { t <ℤ pos 4102704000 }
+    requires second { IsAskable t }
     requires ordered { ordered.now ≡ in_order s.now.events }
     requires listed { length s.now.events ≤ vec_capacity listed.old }
-    requires plays { 64 * length s.now.events + 1 ≤ vec_capacity plays.old }
+    requires plays { MAX_CAMPAIGN_LAYOUTS * length s.now.events + 1 ≤ vec_capacity plays.old }
     ensures items { IsFront plays.new.items (normal_plays s.now t) }
     ensures listed { vec_capacity listed.old ≤ vec_capacity listed.new }
     ensures plays { vec_capacity plays.old ≤ vec_capacity plays.new }
@@ -254,7 +252,7 @@ fn one_interrupt(s: &Catalog, event: &Event) -> Interrupt
 // Appends an interrupt if it has a priority.
 fn offer_interrupt(s: &Catalog, event: &Event, top: u32, interrupts: &mut Vec<Interrupt>)
     requires room { vec_len interrupts.old < vec_capacity interrupts.old }
-    ensures items { (rest : List EventRow) →
+    ensures items { (rest : List EventValue) →
         interrupts.new.items ++ map (interrupt_of s.now) (filter (λ e. e.priority == top) rest)
         ≡ interrupts.old.items
         ++ map (interrupt_of s.now) (filter (λ e. e.priority == top) (event.now ∷ rest)) }
@@ -289,8 +287,7 @@ pub(crate) fn list_interrupts<L: Ledger>(
     listed: &mut Vec<Event>,
     interrupts: &mut Vec<Interrupt>,
 )
-    requires low { neg_ℤ (pos 93599) ≤ℤ t }
-    requires high { t <ℤ pos 4102704000 }
+    requires second { IsAskable t }
     requires events { events.now ≡ s.now.events }
     requires listed { length s.now.events ≤ vec_capacity listed.old }
     requires interrupts { length s.now.events ≤ vec_capacity interrupts.old }

@@ -3,27 +3,26 @@
 ghost use Rattle.std.specs.Prelude.{◌≡◌, ◌==◌, ◌<◌, [], ◌∷◌, ◌++◌, length, Some, slice_get};
 
 use sg_base::MediaId;
+use sg_base::limits::MAX_REGIONS;
 use std::marker::Model;
-
-/// The most regions that a layout has.
-pub(crate) const ROOM: usize = 16;
 
 /// The medium of each region of a layout, in the layout's order: at most 16 entries, in fixed room.
 #[derive(Clone, Debug, Drop)]
 pub struct Picture {
-    entries: [(u32, MediaId); ROOM],
+    entries: [(u32, MediaId); MAX_REGIONS],
     count: usize,
 }
 
 impl Model for Picture {
     ghost use Rattle.std.specs.Prelude.{ℕ, ◌≡◌, ◌≤◌, List, take, length};
     ghost use Rattle.sg_base.specs.declared.ids.MediaId.{MediaId};
+    ghost use Rattle.sg_base.specs.declared.limits.TheConstants.{MAX_REGIONS};
 
     ghost Value = { List (ℕ × MediaId) };
 
     ghost view = { λ p. take p.count p.entries };
 
-    ghost invariant = { λ p. (p.count ≤ 16) × (length p.entries ≡ 16) };
+    ghost invariant = { λ p. (p.count ≤ MAX_REGIONS) × (length p.entries ≡ MAX_REGIONS) };
 }
 
 impl Picture {
@@ -32,14 +31,14 @@ impl Picture {
         ensures { result ≡ [] }
     {
         Picture {
-            entries: [(0, MediaId(0)); ROOM],
+            entries: [(0, MediaId(0)); MAX_REGIONS],
             count: 0,
         }
     }
 
     /// Adds an entry behind the others.
     pub(crate) fn add(&mut self, region: u32, media: MediaId)
-        requires { length self.old < 16 }
+        requires { length self.old < MAX_REGIONS }
         ensures { self.new ≡ self.old ++ (region, media) ∷ [] }
     {
         self.entries[self.count] = (region, media);

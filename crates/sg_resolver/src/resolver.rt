@@ -1,12 +1,14 @@
 //! A snapshot, ready to be asked what it shows.
 
-ghost use Rattle.std.specs.Prelude.{◌≡◌, ◌==◌, ℕ, ◌+◌, ◌<◌, ◌≤◌, List, length, map, Contains, Ok, IfOk, IsOk, option_copied, [], ℤ, pos, neg_ℤ, ◌≤ℤ◌, ◌<ℤ◌};
+ghost use Rattle.std.specs.Prelude.{◌≡◌, ◌==◌, ℕ, ◌+◌, ◌<◌, ◌≤◌, List, length, map, Contains, Ok, IfOk, IsOk, option_copied, []};
+ghost use Rattle.sg_base.specs.Seconds.{IsAskable};
 
 use crate::catalog::Catalog;
 use crate::lists::{list_interrupts, list_normal};
 use crate::order::sorted;
 use crate::picture::Picture;
 use crate::show::Show;
+use sg_base::limits::{HOUR, MAX_CAMPAIGN_LAYOUTS};
 use sg_base::{Event, Layout, LocalSec, Moment, Steps};
 use sg_calendar::Zone;
 use sg_manifest::Snapshot;
@@ -14,12 +16,6 @@ use sg_voice::{Interrupt, Loop, Play, Slot, build_loop, slot_at};
 use std::alloc::{AllocError, Global};
 use std::marker::Model;
 use std::sync::ledger::Ledger;
-
-/// The seconds of an hour.
-const HOUR: i64 = 3600;
-
-/// The most layouts of a campaign.
-const CAMPAIGN: usize = 64;
 
 /// A snapshot with the room that its answers need, taken once.
 #[derive(Debug, Drop)]
@@ -60,7 +56,7 @@ impl Resolver {
         let count = s.events().len();
         let ordered = sorted(alloc, s.events())?;
         let listed = Vec::with_capacity(alloc, count)?;
-        let plays = Vec::with_capacity(alloc, CAMPAIGN * count + 1)?;
+        let plays = Vec::with_capacity(alloc, MAX_CAMPAIGN_LAYOUTS * count + 1)?;
         let interrupts = Vec::with_capacity(alloc, count)?;
         let catalog = Catalog::new(alloc, s)?;
         let hour = Loop::reserve(alloc)?;
@@ -79,8 +75,7 @@ impl Resolver {
     pub fn local(&self, moment: Moment) -> Result<LocalSec, AllocError>
         ensures given { IsOk result }
         ensures value { IfOk result (λ t. t ≡ local_of self.now moment) }
-        ensures low { IfOk result (λ t. neg_ℤ (pos 93599) ≤ℤ t) }
-        ensures high { IfOk result (λ t. t <ℤ pos 4102704000) }
+        ensures second { IfOk result IsAskable }
     {
         self.zone.local(moment)
     }
@@ -88,8 +83,7 @@ impl Resolver {
     /// What is shown at a local second. It takes no memory, and counts at most one step for each event of
     /// the snapshot.
     pub fn show_at<L: Ledger>(&mut self, t: LocalSec, steps: &mut Steps<L>) -> Show
-        requires low { neg_ℤ (pos 93599) ≤ℤ t }
-        requires high { t <ℤ pos 4102704000 }
+        requires second { IsAskable t }
         ensures value { result ≡ shown self.old t }
         ensures closed { IsShown self.old t result }
         ensures known { Contains (layout_ids self.old) result.layout }
@@ -152,18 +146,17 @@ fn zone_told(s: &Snapshot) -> Zone
 // The second of its hour at which a local second stands.
 fn place_in_hour(t: LocalSec) -> u32
     ensures value { result ≡ place_of t }
-    ensures hour { result < 3600 }
+    ensures hour { result < HOUR }
 {
-    t.second().rem_euclid(HOUR) as u32
+    t.second().rem_euclid(HOUR as i64) as u32
 }
 
 // What is shown at a local second, by the slot that covers its place in the hour.
 fn show_of(t: LocalSec, place: u32, slot: Slot) -> Show
     requires place { place ≡ place_of t }
     requires begun { slot.place ≤ place }
-    requires hour { place < 3600 }
-    requires low { neg_ℤ (pos 93599) ≤ℤ t }
-    requires high { t <ℤ pos 4102704000 }
+    requires hour { place < HOUR }
+    requires second { IsAskable t }
     ensures { result ≡ show_of_slot t slot }
 {
     Show {

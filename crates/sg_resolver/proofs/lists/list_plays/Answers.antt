@@ -3,7 +3,7 @@ use Rattle.std.proofs.Common.{◌≡◌, ◌==◌, ◌+◌, ◌<◌, List, [], �
 use Rattle.std.specs.List.{flat_map}
 use Rattle.std.proofs.lemmas.Bool.Decides.{nat_tests}
 use Rattle.std.proofs.Math.ListN.{drop_of_length-le}
-use Rattle.sg_base.specs.Event.{EventRow}
+use Rattle.sg_base.specs.Event.{EventValue}
 use Rattle.sg_voice.specs.declared.play.Play.{Play}
 use Rattle.sg_resolver.specs.Front.{Leads, IsFront}
 use Rattle.sg_resolver.specs.Lists.{plays_of}
@@ -28,7 +28,7 @@ loop-event-preserved c =
     let top = c.top_priority-top.result in
     let all = flat_map (plays_of c.args.s.now) (filter (λ f. f.priority == top) es) in
     let next : drop i es ≡ e ∷ drop (i + 1) es = drop_here es i e c.loop-event-test.true c.event-item.is in
-    let before = subst (λ (xs : List EventRow). Leads c.loop-event.plays.items (flat_map (plays_of c.args.s.now) (filter (λ f. f.priority == top) xs)) all) next c.loop-event.invariant.items in
+    let before = subst (λ (xs : List EventValue). Leads c.loop-event.plays.items (flat_map (plays_of c.args.s.now) (filter (λ f. f.priority == top) xs)) all) next c.loop-event.invariant.items in
     record {
       items = c.offer_plays.ensures.items (drop (i + 1) es) all before;
       few = omega (arith, c.offer_plays.ensures.few, c.loop-event.invariant.few);
@@ -43,5 +43,5 @@ returns-clause-items c =
     let all = flat_map (plays_of c.args.s.now) (filter (λ f. f.priority == top) es) in
     let some : 0 < length es = grind (arith, nat_tests) in
     let past : drop c.loop-event.event-index es ≡ [] = drop_of_length-le es c.loop-event-test.false in
-    let front = subst (λ (xs : List EventRow). Leads plays (flat_map (plays_of c.args.s.now) (filter (λ f. f.priority == top) xs)) all) past c.loop-event.invariant.items in
+    let front = subst (λ (xs : List EventValue). Leads plays (flat_map (plays_of c.args.s.now) (filter (λ f. f.priority == top) xs)) all) past c.loop-event.invariant.items in
     subst (λ (ps : List Play). IsFront plays ps) (plays_highest c.args.s.now es top some c.top_priority-top.ensures) front
