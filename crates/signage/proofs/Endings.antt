@@ -3,7 +3,7 @@ use Rattle.std.proofs.Common.{◌≡◌, ℕ, List, ◌++◌, sym, ap, ◌∙◌
 use Rattle.std.specs.declared.option.Option.{Option}
 use Rattle.std.specs.Io.KnownBytes.{Appends}
 use Rattle.std.proofs.KnownBytes.{Appends-trans}
-use Rattle.sg_outside.specs.Causes.{Rose}
+use Rattle.sg_base.specs.Causes.{Rose}
 use Rattle.sg_outside.specs.Streams.{AppendsPart}
 use Rattle.signage.specs.Stop.{Finishes}
 use Rattle.signage.specs.Top.{Ends}
@@ -35,6 +35,7 @@ stopped Output status front text result old mid new faults between faults' befor
     is = subst (λ (s : ℕ). Output s (front ++ text)) (sym (f.done fine).0) out;
     put = Appends-trans old mid new front text before (f.done fine).1;
   };
+  quiet = λ fine. f.quiet fine ∙ same;
   write = λ five. record {
     rose = subst (λ (n : ℕ). Rose n faults') same (f.write five).0;
     status = status;
@@ -49,6 +50,7 @@ pub stopped_first : (Output : ℕ → List ℕ → Type 0) (status : ℕ) (text 
     → Finishes status text result old new faults faults' → Output status text → Ends Output result old new faults faults'
 stopped_first Output status text result old new faults faults' f out = record {
   done = λ fine. record { text = text; is = subst (λ (s : ℕ). Output s text) (sym (f.done fine).0) out; put = (f.done fine).1 };
+  quiet = f.quiet;
   write = λ five. record { rose = (f.write five).0; status = status; text = text; is = out; put = (f.write five).1 };
 }
 
@@ -57,6 +59,7 @@ pub retold : (P Q : ℕ → List ℕ → Type 0) (result : ℕ) (old new : Optio
     → ((status : ℕ) (text : List ℕ) → P status text → Q status text) → Ends P result old new faults faults' → Ends Q result old new faults faults'
 retold P Q result old new faults faults' tell e = record {
   done = λ fine. record { text = (e.done fine).text; is = tell result (e.done fine).text (e.done fine).is; put = (e.done fine).put };
+  quiet = e.quiet;
   write = λ five. record {
     rose = (e.write five).rose;
     status = (e.write five).status;

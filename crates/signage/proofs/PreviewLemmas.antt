@@ -1,5 +1,6 @@
 -- From the parts of a preview to the whole.
-use Rattle.std.proofs.Common.{◌≡◌, ℕ, ◌<◌, ◌≤◌, true, List, [], ◌∷◌, ◌++◌, length, take, get_or, Contains, ◌⊎◌, inl, inr, Result, Ok, Err, MatchResult, zero, suc, refl, sym, lit<, arith}
+use Rattle.std.proofs.Common.{◌≡◌, ℕ, ◌+◌, ◌<◌, ◌≤◌, true, List, [], ◌∷◌, ◌++◌, length, take, get_or, Contains, ◌⊎◌, inl, inr, Result, Ok, Err, MatchResult, zero, suc, refl, sym, lit<, arith}
+use Rattle.sg_base.specs.declared.limits.TheConstants.{MANIFEST_TEXT}
 use Rattle.sg_manifest.specs.declared.fault.ManifestFault.{ManifestFault}
 use Rattle.sg_manifest.specs.declared.fault.ManifestFault.TheVariants.{Memory as OutOfMemory}
 use Rattle.sg_manifest.specs.Faults.{has_cause}
@@ -9,7 +10,7 @@ use Rattle.signage.specs.declared.stop.Stop.TheVariants.{Usage, TooLong, NoManif
 use Rattle.signage.specs.Texts.{memory_fault}
 use Rattle.signage.specs.Stop.{status_of, text_of}
 use Rattle.signage.specs.Lines.{lines_of}
-use Rattle.signage.specs.Preview.{Input, IsManifest, Reads, IsPreview, body_of}
+use Rattle.signage.specs.Preview.{Input, IsManifest, TakesAll, Reads, IsPreview, body_of}
 use Rattle.signage.specs.Loading.{ReadsSome, Stops, Refused}
 use Rattle.signage.specs.Printing.{IsTimeline}
 
@@ -39,6 +40,7 @@ first_lines s moments n some = record { known = (1, lit< tt, refl); all = λ e. 
 pub previewed : (before after : Input) (s : SnapshotRow) (moments : List ℕ) → Reads before after s → (status : ℕ) (text : List ℕ) → IsTimeline s moments status text → IsPreview before after moments status text
 previewed before after s moments reads status text t = record {
   known = elim (timeline_cases status t.known) [ inl e ↦ (0, lit< tt, sym e) | inr e ↦ (3, lit< tt, sym e) ];
+  quiet = λ _. reads.quiet;
   shown = λ e. record { snapshot = s; reads = reads; lines = t.all e };
   refused = λ e. absurd (elim (timeline_cases status t.known) [ inl z ↦ omega (arith, e, z) | inr z ↦ omega (arith, e, z) ]);
   read = λ e. absurd (elim (timeline_cases status t.known) [ inl z ↦ omega (arith, e, z) | inr z ↦ omega (arith, e, z) ]);
@@ -51,42 +53,54 @@ previewed before after s moments reads status text t = record {
 
 -- and so is a stop with its cause
 pub stop_preview : (before after : Input) (moments : List ℕ) (stop : Stop) → Stops before after stop → IsPreview before after moments (status_of stop) (text_of stop)
-stop_preview before after moments Usage h = absurd h
+stop_preview before after moments Usage h = absurd h.cause
 stop_preview before after moments TooLong h = record {
   known = (1, lit< tt, refl);
+  quiet = λ _. h.quiet (λ e. cc);
   shown = λ e. absurd (omega (arith, e));
-  refused = λ e. inl (h, refl);
+  refused = λ e. inl (h.cause, refl);
   read = λ e. absurd (omega (arith, e));
   memory = λ e. absurd (omega (arith, e));
 }
 stop_preview before after moments (NoManifest fault) h = record {
   known = (1, lit< tt, refl);
+  quiet = λ _. h.quiet (λ e. cc);
   shown = λ e. absurd (omega (arith, e));
-  refused = λ e. inr (fault, h, refl);
+  refused = λ e. inr (fault, h.cause, refl);
   read = λ e. absurd (omega (arith, e));
   memory = λ e. absurd (omega (arith, e));
 }
 stop_preview before after moments Read h = record {
   known = (2, lit< tt, refl);
+  quiet = λ other. absurd (other refl);
   shown = λ e. absurd (omega (arith, e));
   refused = λ e. absurd (omega (arith, e));
-  read = λ e. (h, refl);
+  read = λ e. (h.cause, refl);
   memory = λ e. absurd (omega (arith, e));
 }
 stop_preview before after moments Memory h = record {
   known = (3, lit< tt, refl);
+  quiet = λ _. h.quiet (λ e. cc);
   shown = λ e. absurd (omega (arith, e));
   refused = λ e. absurd (omega (arith, e));
   read = λ e. absurd (omega (arith, e));
   memory = λ e. record { lines = []; some = inl refl; is = refl };
 }
 
+-- the whole of an input that is short enough was taken
+all_taken : (before after : Input) (input : List ℕ) → ReadsSome before.left after.left input → length input ≤ MANIFEST_TEXT + 1 → TakesAll before after input
+all_taken before after input some short = record {
+  taken = some.taken;
+  end = elim some.whole [ inl long ↦ absurd (omega (arith, long, short)) | inr e ↦ e.1 ];
+  short = short;
+}
+
 -- an input that was read, and what its bytes are
-pub loaded : (before after : Input) (input : List ℕ) (r : Result SnapshotRow Stop) → ReadsSome before.left after.left input → length input ≤ 1048577
+pub loaded : (before after : Input) (input : List ℕ) (r : Result SnapshotRow Stop) → ReadsSome before.left after.left input → after.faults ≡ before.faults → length input ≤ MANIFEST_TEXT + 1
     → MatchResult r (λ s. IsManifest (body_of input) s) (λ stop. Refused (body_of input) stop) → MatchResult r (λ s. Reads before after s) (λ stop. Stops before after stop)
-loaded before after input (Ok s) some short is = record { input = input; taken = record { taken = some.taken; end = elim some.whole [ inl long ↦ absurd (omega (arith, long, short)) | inr e ↦ e ]; short = short }; is = is }
-loaded before after input (Err Usage) some short h = absurd h
-loaded before after input (Err TooLong) some short h = absurd h
-loaded before after input (Err (NoManifest fault)) some short h = record { input = input; taken = record { taken = some.taken; end = elim some.whole [ inl long ↦ absurd (omega (arith, long, short)) | inr e ↦ e ]; short = short }; first = h }
-loaded before after input (Err Read) some short h = absurd h
-loaded before after input (Err Memory) some short h = tt
+loaded before after input (Ok s) some calm short is = record { quiet = calm; input = input; taken = all_taken before after input some short; is = is }
+loaded before after input (Err Usage) some calm short h = absurd h
+loaded before after input (Err TooLong) some calm short h = absurd h
+loaded before after input (Err (NoManifest fault)) some calm short h = record { cause = record { input = input; taken = all_taken before after input some short; first = h }; quiet = λ _. calm }
+loaded before after input (Err Read) some calm short h = absurd h
+loaded before after input (Err Memory) some calm short h = record { cause = tt; quiet = λ _. calm }

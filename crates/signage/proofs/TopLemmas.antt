@@ -29,8 +29,8 @@ pub not_usage : (c : Command) (before after : Input) (status : ℕ) (text : List
 not_usage c before after status text two h = not_two c before after text (subst (λ (n : ℕ). Does c before after n text) two h)
 
 -- want of memory before any command is one of its ends
-pub runs_out : (c : Command) (before after : Input) → Does c before after 9 memory_fault
-runs_out (Preview ms) before after = stop_preview before after ms Memory tt
+pub runs_out : (c : Command) (input : Input) → Does c input input 9 memory_fault
+runs_out (Preview ms) input = stop_preview input input ms Memory (record { cause = tt; quiet = λ _. refl })
 
 pub usage_shown : IsUsage 2 usage
 usage_shown = record { known = (0, lit< tt, refl); usage_line = λ e. refl; memory = λ e. absurd (omega (arith, e)) }

@@ -1,25 +1,31 @@
 -- For private clauses: what is known where an input couldn't be used.
-use Rattle.std.specs.Prelude.{◌≡◌, ℕ, ◌<◌, List, length, ◌⊎◌, Err}
+use Rattle.std.specs.Prelude.{◌≡◌, ◌≢◌, ℕ, ◌+◌, ◌≤◌, List, length, ◌⊎◌, Err}
 use Rattle.std.specs.declared.option.Option.{Option}
 use Rattle.std.specs.Io.KnownBytes.{Consumes, IsAtEnd}
-use Rattle.sg_outside.specs.Causes.{Rose}
+use Rattle.sg_base.specs.declared.limits.TheConstants.{MANIFEST_TEXT}
+use Rattle.sg_base.specs.Causes.{Rose}
 use Rattle.sg_manifest.specs.Reading.{manifest_at}
 use Rattle.signage.specs.declared.stop.Stop.{Stop}
 use Rattle.signage.specs.declared.stop.Stop.TheVariants.{Usage, TooLong, NoManifest, Read, Memory}
 use Rattle.signage.specs.Preview.{Input, IsLong, IsRefused}
 
--- these bytes were taken: all that there was, or more than an input may have
+-- these bytes were taken: all that there was, or one more than an input may have
 pub record ReadsSome (old new : Option (List ℕ)) (bytes : List ℕ) : Type 0 where
   pub taken : Consumes old new bytes
-  pub whole : (1048577 < length bytes) ⊎ IsAtEnd new
+  pub whole : (length bytes ≡ MANIFEST_TEXT + 2) ⊎ ((length bytes ≤ MANIFEST_TEXT + 1) × IsAtEnd new)
 
--- the cause of each stop
-abbrev pub Stops : Input → Input → Stop → Type 0
-Stops before after Usage = ⊥
-Stops before after TooLong = IsLong before after
-Stops before after (NoManifest fault) = IsRefused before after fault
-Stops before after Read = Rose before.faults after.faults
-Stops before after Memory = Unit {0}
+-- the cause of each stop but want of memory
+abbrev pub StopsBy : Input → Input → Stop → Type 0
+StopsBy before after Usage = ⊥
+StopsBy before after TooLong = IsLong before after
+StopsBy before after (NoManifest fault) = IsRefused before after fault
+StopsBy before after Read = Rose before.faults after.faults
+StopsBy before after Memory = Unit {0}
+
+-- the stop has its cause, and no take has failed but one that is the cause
+pub record Stops (before after : Input) (stop : Stop) : Type 0 where
+  pub cause : StopsBy before after stop
+  pub quiet : stop ≢ Read → after.faults ≡ before.faults
 
 -- why bytes are no manifest
 abbrev pub Refused : List ℕ → Stop → Type 0

@@ -1,8 +1,9 @@
 -- What `preview` does: it reads one manifest and writes one line for each moment.
-use Rattle.std.specs.Prelude.{◌≡◌, ℕ, ◌-◌, ◌<◌, ◌≤◌, ◌==◌, if◌then◌else◌, ◌⊎◌, List, [], ◌∷◌, ◌++◌, length, take, Contains, slice_index, Err}
+use Rattle.std.specs.Prelude.{◌≡◌, ◌≢◌, ℕ, ◌+◌, ◌-◌, ◌<◌, ◌≤◌, ◌==◌, if◌then◌else◌, ◌⊎◌, List, [], ◌∷◌, ◌++◌, length, take, Contains, slice_index, Err}
 use Rattle.std.specs.declared.option.Option.{Option}
 use Rattle.std.specs.Io.KnownBytes.{Consumes, IsAtEnd}
-use Rattle.sg_outside.specs.Causes.{Rose}
+use Rattle.sg_base.specs.declared.limits.TheConstants.{MANIFEST_TEXT}
+use Rattle.sg_base.specs.Causes.{Rose}
 use Rattle.sg_manifest.specs.Snapshot.{SnapshotRow, IsSnapshot}
 use Rattle.sg_manifest.specs.declared.fault.ManifestFault.{ManifestFault}
 use Rattle.sg_manifest.specs.Reading.{manifest_at}
@@ -15,6 +16,10 @@ pub record Input : Type 0 where
   pub left : Option (List ℕ)
   pub faults : ℕ
 
+-- the input as a source has it, by what it has left and by its count
+abbrev pub side : {A : Type 0} → (A → Option (List ℕ)) → (A → ℕ) → A → Input
+side left faults source = record { left = left source; faults = faults source }
+
 -- one final line feed is dropped
 abbrev pub body_of : List ℕ → List ℕ
 body_of input = if slice_index input (length input - 1) == 10 then take (length input - 1) input else input
@@ -22,17 +27,18 @@ body_of input = if slice_index input (length input - 1) == 10 then take (length 
 -- the bytes are the text of this valid snapshot, within the limit of a text
 pub record IsManifest (bytes : List ℕ) (s : SnapshotRow) : Type 0 where
   pub valid : IsSnapshot s
-  pub short : length bytes ≤ 1048576
+  pub short : length bytes ≤ MANIFEST_TEXT
   pub is : bytes ≡ text s
 
 -- these bytes were taken, and nothing is left
 pub record TakesAll (before after : Input) (input : List ℕ) : Type 0 where
   pub taken : Consumes before.left after.left input
   pub end : IsAtEnd after.left
-  pub short : length input ≤ 1048577
+  pub short : length input ≤ MANIFEST_TEXT + 1
 
 -- the whole input was read, and it is the manifest of this snapshot
 pub record Reads (before after : Input) (s : SnapshotRow) : Type 0 where
+  pub quiet : after.faults ≡ before.faults
   pub input : List ℕ
   pub taken : TakesAll before after input
   pub is : IsManifest (body_of input) s
@@ -49,11 +55,11 @@ pub record ShowsFirst (before after : Input) (moments output : List ℕ) : Type 
   pub some : n ≤ length moments
   pub shows : Shows before after (take n moments) output
 
--- the input is too long
+-- the input is too long: one byte more was taken than an input may have, and no further one
 pub record IsLong (before after : Input) : Type 0 where
   pub input : List ℕ
   pub taken : Consumes before.left after.left input
-  pub long : 1048577 < length input
+  pub long : length input ≡ MANIFEST_TEXT + 2
 
 -- the whole input was read, and this is its first fault as a manifest
 pub record IsRefused (before after : Input) (fault : ManifestFault) : Type 0 where
@@ -72,9 +78,10 @@ pub record RunsOut (before after : Input) (moments output : List ℕ) : Type 0 w
   pub some : (lines ≡ []) ⊎ ShowsFirst before after moments lines
   pub is : output ≡ lines ++ memory_fault
 
--- a preview's status and output
+-- a preview's status and output; a take that failed isn't tried again, but told
 pub record IsPreview (before after : Input) (moments : List ℕ) (status : ℕ) (output : List ℕ) : Type 0 where
   pub known : Contains (0 ∷ 3 ∷ 4 ∷ 9 ∷ []) status
+  pub quiet : status ≢ 4 → after.faults ≡ before.faults
   pub shown : status ≡ 0 → Shows before after moments output
   pub refused : status ≡ 3 → Refuses before after output
   pub read : status ≡ 4 → Rose before.faults after.faults × (output ≡ read_fault)

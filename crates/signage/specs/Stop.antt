@@ -2,7 +2,7 @@
 use Rattle.std.specs.Prelude.{◌≡◌, ◌≢◌, ℕ, List}
 use Rattle.std.specs.declared.option.Option.{Option}
 use Rattle.std.specs.Io.KnownBytes.{Appends}
-use Rattle.sg_outside.specs.Causes.{Rose}
+use Rattle.sg_base.specs.Causes.{Rose}
 use Rattle.sg_outside.specs.Streams.{AppendsPart}
 use Rattle.signage.specs.declared.stop.Stop.{Stop}
 use Rattle.signage.specs.declared.stop.Stop.TheVariants.{Usage, TooLong, NoManifest, Read, Memory}
@@ -25,4 +25,5 @@ text_of Memory = memory_fault
 -- a last text with its status: written whole, or the sink failed in it
 pub record Finishes (status : ℕ) (text : List ℕ) (result : ℕ) (old new : Option (List ℕ)) (faults faults' : ℕ) : Type 0 where
   pub done : result ≢ 5 → (result ≡ status) × Appends old new text
+  pub quiet : result ≢ 5 → faults' ≡ faults
   pub write : result ≡ 5 → Rose faults faults' × AppendsPart old new text

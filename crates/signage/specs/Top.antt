@@ -2,7 +2,7 @@
 use Rattle.std.specs.Prelude.{◌≡◌, ◌≢◌, ℕ, List, [], ◌∷◌, Contains}
 use Rattle.std.specs.declared.option.Option.{Option}
 use Rattle.std.specs.Io.KnownBytes.{Appends}
-use Rattle.sg_outside.specs.Causes.{Rose}
+use Rattle.sg_base.specs.Causes.{Rose}
 use Rattle.sg_outside.specs.Streams.{AppendsPart}
 use Rattle.signage.specs.declared.command.Command.{Command}
 use Rattle.signage.specs.declared.command.Command.TheVariants.{Preview}
@@ -23,9 +23,10 @@ pub record BreaksOff (Output : ℕ → List ℕ → Type 0) (old new : Option (L
   pub is : Output status text
   pub put : AppendsPart old new text
 
--- A command ends: with its status and output, or with 5 where the sink failed.
+-- A command ends: with its status and output, and no put has failed; or with 5, and the sink failed.
 pub record Ends (Output : ℕ → List ℕ → Type 0) (status : ℕ) (old new : Option (List ℕ)) (faults faults' : ℕ) : Type 0 where
   pub done : status ≢ 5 → Writes Output status old new
+  pub quiet : status ≢ 5 → faults' ≡ faults
   pub write : status ≡ 5 → BreaksOff Output old new faults faults'
 
 -- what each command does with its input

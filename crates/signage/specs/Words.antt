@@ -4,12 +4,13 @@ use Rattle.std.specs.Fmt.{decimal}
 use Rattle.std.specs.declared.string.String.{String}
 use Rattle.std.specs.declared.alloc.Global.{Global}
 use Rattle.std.specs.String.{string_bytes}
+use Rattle.sg_base.specs.declared.limits.TheConstants.{LAST_MOMENT, PREVIEW_MOMENTS}
 use Rattle.signage.specs.declared.command.Command.{Command}
 use Rattle.signage.specs.declared.command.Command.TheVariants.{Preview}
 
 -- a moment is written as a decimal number, without a sign or a leading zero
 pub record IsMoment (word : List ℕ) (moment : ℕ) : Type 0 where
-  pub bound : moment ≤ 4102444799
+  pub bound : moment ≤ LAST_MOMENT
   pub is : word ≡ decimal moment
 
 -- each word is a moment, in order
@@ -26,7 +27,7 @@ NoMoments words = (ms : List ℕ) → AreMoments words ms → ⊥
 -- 1 to 1,000 moments
 pub record ArePreviewWords (words : List (List ℕ)) (ms : List ℕ) : Type 0 where
   pub some : 1 ≤ length ms
-  pub few : length ms ≤ 1000
+  pub few : length ms ≤ PREVIEW_MOMENTS
   pub moments : AreMoments words ms
 
 -- a preview of the moments that the words are

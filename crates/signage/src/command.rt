@@ -3,6 +3,7 @@
 ghost use Rattle.std.specs.Prelude.{ℕ, List, IfOk, MatchOption};
 ghost use Rattle.signage.specs.Words.{Names, NamedBy, NamesNone, IsMoment, AreMoments, NoMoments, ArePreviewWords, IsPreviewOf, texts};
 
+use sg_base::limits::PREVIEW_MOMENTS;
 use sg_base::{Moment, Rows};
 use std::alloc::{AllocError, Global};
 
@@ -12,9 +13,6 @@ pub enum Command {
     /// The timeline of one manifest at these moments, of which there are 1 to 1,000.
     Preview(Rows<Moment>),
 }
-
-/// The most moments of one `preview`.
-const MOST_MOMENTS: usize = 1000;
 
 /// The command that the words name, if they are in the command table.
 pub(crate) fn command_of(alloc: Global, words: &[String]) -> Result<Option<Command>, AllocError>
@@ -45,7 +43,7 @@ fn preview_of(alloc: Global, others: &[String]) -> Result<Option<Command>, Alloc
         ((ms : List ℕ) → ArePreviewWords (texts others.now) ms → ⊥)
         (IsPreviewOf (texts others.now))) }
 {
-    if others.is_empty() || others.len() > MOST_MOMENTS {
+    if others.is_empty() || others.len() > PREVIEW_MOMENTS {
         return Ok(None);
     }
     match moments_of(alloc, others)? {

@@ -2,31 +2,34 @@
 
 ghost use Rattle.std.specs.Prelude.{◌≡◌, ◌<◌, ◌≤◌, vec_len, IfOk, MatchResult};
 ghost use Rattle.std.specs.Io.KnownBytes.{Consumes, IsAtEnd};
-ghost use Rattle.signage.specs.Preview.{Input, Reads, body_of, IsManifest};
+ghost use Rattle.signage.specs.Preview.{Reads, side, body_of, IsManifest};
 ghost use Rattle.signage.specs.Loading.{Stops, ReadsSome, Refused};
 
 use crate::stop::Stop;
+use sg_base::limits::MANIFEST_TEXT;
 use sg_manifest::{ManifestFault, Snapshot, read};
 use sg_outside::Source;
 use std::alloc::Global;
 
 /// The most bytes of an input: those of a manifest's text and one line feed.
-const LIMIT: usize = 1_048_577;
+const LIMIT: usize = MANIFEST_TEXT as usize + 1;
 
 /// How many bytes one take asks for.
 const PIECE: usize = 4096;
 
-/// Reads the input to its end, or until it is longer than an input may be.
+/// Reads the input to its end, or until it has one byte more than an input may have.
 fn read_input<S: Source>(alloc: Global, source: &mut S) -> Result<Vec<u8>, Stop>
     ensures { MatchResult result
-        (λ v. ReadsSome (S.left source.old) (S.left source.new) v.items)
-        (λ stop. Stops (record { left = S.left source.old; faults = S.faults source.old }) (record { left = S.left source.new; faults = S.faults source.new }) stop) }
+        (λ v. ReadsSome (S.left source.old) (S.left source.new) v.items
+        × (S.take_faults source.new ≡ S.take_faults source.old))
+        (λ stop. Stops (side S.left S.take_faults source.old) (side S.left S.take_faults source.new) stop) }
 {
     let mut bytes = Vec::new(alloc);
     let mut piece = [0u8; PIECE];
     // Each take but the last gives a byte at least.
     while bytes.len() <= LIMIT {
-        match source.take(&mut piece) {
+        let room = PIECE.min(LIMIT + 1 - bytes.len());
+        match source.take(&mut piece[..room]) {
             Ok(0) => return Ok(bytes),
             Ok(count) => {
                 if bytes.extend_from_slice(&piece[..count]).is_err() {
@@ -52,8 +55,8 @@ fn body(input: &[u8]) -> &[u8]
 /// Reads the whole input, and the snapshot whose text it is.
 pub(crate) fn load<S: Source>(alloc: Global, source: &mut S) -> Result<Snapshot, Stop>
     ensures { MatchResult result
-        (λ s. Reads (record { left = S.left source.old; faults = S.faults source.old }) (record { left = S.left source.new; faults = S.faults source.new }) s)
-        (λ stop. Stops (record { left = S.left source.old; faults = S.faults source.old }) (record { left = S.left source.new; faults = S.faults source.new }) stop) }
+        (λ s. Reads (side S.left S.take_faults source.old) (side S.left S.take_faults source.new) s)
+        (λ stop. Stops (side S.left S.take_faults source.old) (side S.left S.take_faults source.new) stop) }
 {
     let input = read_input(alloc, source)?;
     if input.len() > LIMIT {

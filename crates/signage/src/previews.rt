@@ -2,10 +2,10 @@
 
 ghost use Rattle.std.specs.Prelude.{◌≡◌, ◌<◌, ◌≤◌, length, take, IfOk, OnOk, OnErr, MatchResult, string_bytes};
 ghost use Rattle.std.specs.Io.KnownBytes.{Appends};
-ghost use Rattle.sg_outside.specs.Causes.{Rose, HasCause};
+ghost use Rattle.sg_base.specs.Causes.{Rose, HasCause};
 ghost use Rattle.sg_outside.specs.Streams.{AppendsPart};
 ghost use Rattle.signage.specs.Lines.{line_at, lines_of};
-ghost use Rattle.signage.specs.Preview.{Input, IsPreview};
+ghost use Rattle.signage.specs.Preview.{IsPreview, side};
 ghost use Rattle.signage.specs.Top.{Ends};
 ghost use Rattle.signage.specs.Printing.{Prints};
 
@@ -34,8 +34,10 @@ pub fn preview<S: Source, O: Sink>(
     out: &mut O,
 ) -> u8
     ensures { Ends
-        (IsPreview (record { left = S.left source.old; faults = S.faults source.old }) (record { left = S.left source.new; faults = S.faults source.new }) moments.now)
-        result (O.written out.old) (O.written out.new) (O.faults out.old) (O.faults out.new) }
+        (IsPreview (side S.left S.take_faults source.old) (side S.left S.take_faults source.new)
+        moments.now)
+        result (O.written out.old) (O.written out.new)
+        (O.put_faults out.old) (O.put_faults out.new) }
 {
     match load(alloc, source) {
         Ok(snapshot) => show::<Brand, O>(Blank::new(1), alloc, &snapshot, moments, out),
@@ -54,7 +56,8 @@ fn show<L: Ledger, O: Sink>(
     requires name { blank.name ≡ L.name }
     requires parts { blank.parts ≡ L.parts }
     requires some { 0 < blank.parts }
-    ensures { Prints snapshot.now moments.now result (O.written out.old) (O.written out.new) (O.faults out.old) (O.faults out.new) }
+    ensures { Prints snapshot.now moments.now result (O.written out.old) (O.written out.new)
+        (O.put_faults out.old) (O.put_faults out.new) }
 {
     let mut steps = Steps::<L>::new(blank);
     match Resolver::adopt(alloc, snapshot) {
@@ -71,7 +74,8 @@ fn show_all<L: Ledger, O: Sink>(
     out: &mut O,
     steps: &mut Steps<L>,
 ) -> u8
-    ensures { Prints resolver.old moments.now result (O.written out.old) (O.written out.new) (O.faults out.old) (O.faults out.new) }
+    ensures { Prints resolver.old moments.now result (O.written out.old) (O.written out.new)
+        (O.put_faults out.old) (O.put_faults out.new) }
 {
     for moment in moments {
         let text = match line_of(alloc, resolver, *moment, steps) {

@@ -72,7 +72,8 @@ pub(crate) const WRITE_FAULT: u8 = 5;
 
 /// Writes a stop's line and answers its status, or 5 where the sink fails.
 pub(crate) fn finish<O: Sink>(out: &mut O, stop: Stop) -> u8
-    ensures { Finishes (status_of stop) (text_of stop) result (O.written out.old) (O.written out.new) (O.faults out.old) (O.faults out.new) }
+    ensures { Finishes (status_of stop) (text_of stop) result (O.written out.old)
+        (O.written out.new) (O.put_faults out.old) (O.put_faults out.new) }
 {
     match put_all(out, stop.text().as_bytes()) {
         Ok(()) => stop.status(),

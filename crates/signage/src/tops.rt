@@ -2,7 +2,7 @@
 
 ghost use Rattle.std.specs.Prelude.{◌≡◌};
 ghost use Rattle.signage.specs.Words.{Names, NamesNone, texts};
-ghost use Rattle.signage.specs.Preview.{Input};
+ghost use Rattle.signage.specs.Preview.{side};
 ghost use Rattle.signage.specs.Top.{Ends, Does, IsUsage};
 
 use crate::command::{Command, command_of};
@@ -24,10 +24,13 @@ pub struct Outside<S, O> {
 pub fn top<S: Source, O: Sink>(alloc: Global, words: &[String], outside: &mut Outside<S, O>) -> u8
     ensures usage { result ≡ 2 → NamesNone (texts words.now) }
     ensures run { (c : Command) → Names (texts words.now) c → Ends
-        (Does c (record { left = S.left outside.old.source; faults = S.faults outside.old.source }) (record { left = S.left outside.new.source; faults = S.faults outside.new.source }))
-        result (O.written outside.old.out) (O.written outside.new.out) (O.faults outside.old.out) (O.faults outside.new.out) }
+        (Does c (side S.left S.take_faults outside.old.source)
+        (side S.left S.take_faults outside.new.source))
+        result (O.written outside.old.out) (O.written outside.new.out)
+        (O.put_faults outside.old.out) (O.put_faults outside.new.out) }
     ensures other { NamesNone (texts words.now) → Ends IsUsage
-        result (O.written outside.old.out) (O.written outside.new.out) (O.faults outside.old.out) (O.faults outside.new.out) }
+        result (O.written outside.old.out) (O.written outside.new.out)
+        (O.put_faults outside.old.out) (O.put_faults outside.new.out) }
     ensures apart { NamesNone (texts words.now) → outside.new.source ≡ outside.old.source }
 {
     match command_of(alloc, words) {
@@ -40,8 +43,10 @@ pub fn top<S: Source, O: Sink>(alloc: Global, words: &[String], outside: &mut Ou
 /// Does a command, and answers its status.
 fn follow<S: Source, O: Sink>(alloc: Global, command: &Command, outside: &mut Outside<S, O>) -> u8
     ensures { Ends
-        (Does command.now (record { left = S.left outside.old.source; faults = S.faults outside.old.source }) (record { left = S.left outside.new.source; faults = S.faults outside.new.source }))
-        result (O.written outside.old.out) (O.written outside.new.out) (O.faults outside.old.out) (O.faults outside.new.out) }
+        (Does command.now (side S.left S.take_faults outside.old.source)
+        (side S.left S.take_faults outside.new.source))
+        result (O.written outside.old.out) (O.written outside.new.out)
+        (O.put_faults outside.old.out) (O.put_faults outside.new.out) }
 {
     match command {
         Command::Preview(moments) => preview(

@@ -16,6 +16,6 @@ returns-in-Some c =
     let many : length c.in-Some.moments.items ≡ length c.args.others.now = length-AreMoments (λ w. string_bytes w) c.args.others.now c.in-Some.moments.items are in
     rw c.from_vec.ensures (record {
       some = grind (arith, nat_tests, c.is_empty.ensures, c.if-is_empty.false);
-      few = omega (arith, c.if-others-gt-MOST_MOMENTS.false);
+      few = omega (arith, c.if-others-gt-PREVIEW_MOMENTS.false);
       moments = are;
     })

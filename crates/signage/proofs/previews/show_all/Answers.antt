@@ -1,5 +1,5 @@
 use Rattle.std.proofs.Common.{take, refl, ◌∙◌, subst, arith}
-use Rattle.sg_outside.specs.Causes.{Rose}
+use Rattle.sg_base.specs.Causes.{Rose}
 use Rattle.signage.specs.Texts.{memory_fault}
 use Rattle.signage.specs.Lines.{line_at, lines_of}
 use Rattle.signage.specs.Printing.{IsTimeline}
@@ -16,8 +16,9 @@ returns-in-Err g c =
 pub returns-in-Err-put_all : goal.returns-in-Err-put_all
 returns-in-Err-put_all g c = record {
   done = λ fine. absurd (fine refl);
+  quiet = λ fine. absurd (fine refl);
   write = λ five. record {
-    rose = subst (λ n. Rose n (g.O.Sink.faults c.put_all.new.out)) c.loop-moment.invariant.faults c.in-Err-put_all.ensures.cause.failed;
+    rose = subst (λ n. Rose n (g.O.Ends.put_faults c.put_all.new.out)) c.loop-moment.invariant.faults c.in-Err-put_all.ensures.cause.failed;
     status = 0;
     text = lines_of c.args.resolver.now c.args.moments.now;
     is = all_lines c.args.resolver.now c.args.moments.now;

@@ -5,7 +5,7 @@ use Rattle.signage.proofs.previews.show_all.Given as goal
 
 abbrev pub invariant-loop-moment : goal.invariant-loop-moment
 invariant-loop-moment g l = record {
-  written : Appends (g.O.Sink.written l.initial.out) (g.O.Sink.written l.out) (lines_of l.initial.resolver (take l.moment-index l.moments));
+  written : Appends (g.O.Ends.written l.initial.out) (g.O.Ends.written l.out) (lines_of l.initial.resolver (take l.moment-index l.moments));
   same : l.resolver ≡ l.initial.resolver;
-  faults : g.O.Sink.faults l.out ≡ g.O.Sink.faults l.initial.out;
+  faults : g.O.Ends.put_faults l.out ≡ g.O.Ends.put_faults l.initial.out;
 }

@@ -23,8 +23,8 @@ returns-in-Ok-None-clause-other g c = λ none. stopped_first IsUsage 2 usage c.f
 
 pub returns-in-Err-clause-run : goal.returns-in-Err-clause-run
 returns-in-Err-clause-run g c = λ other names.
-    let input : Input = record { left = g.S.Source.left c.args.outside.now.source; faults = g.S.Source.faults c.args.outside.now.source } in
-    stopped_first (Does other input input) 9 memory_fault c.finish-in-Err.result _ _ _ _ c.finish-in-Err.ensures (runs_out other input input)
+    let input : Input = record { left = g.S.Ends.left c.args.outside.now.source; faults = g.S.Ends.take_faults c.args.outside.now.source } in
+    stopped_first (Does other input input) 9 memory_fault c.finish-in-Err.result _ _ _ _ c.finish-in-Err.ensures (runs_out other input)
 
 pub returns-in-Err-clause-other : goal.returns-in-Err-clause-other
 returns-in-Err-clause-other g c = λ none. stopped_first IsUsage 9 memory_fault c.finish-in-Err.result _ _ _ _ c.finish-in-Err.ensures usage_lost
