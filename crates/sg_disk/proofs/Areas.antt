@@ -4,13 +4,14 @@ use Rattle.std.specs.List.{flat_map}
 use Rattle.sg_base.specs.declared.play.PlayBody.{PlayBody}
 use Rattle.sg_disk.specs.View.{View, range, Torn, Only}
 use Rattle.sg_disk.specs.Runs.{After, LeavesOnly, Within, HasOne}
-use Rattle.sg_disk.specs.Contents.{Segment, StoredFile, Contents, IsLawful, IsInside, IsClear, AreClear}
+use Rattle.sg_disk.specs.Contents.{Segment, StoredFile, Contents, IsLawful, IsInside, IsClear, AreClear, taken, parts}
 use Rattle.sg_disk.specs.StandsFor.{HasFields, AreSlots, AreFiles, IsJournal, journal_of, IsHeader, StandsFor, Settled}
 use Rattle.sg_disk.specs.declared.places.TheConstants.{HEADER_LEN, SLOT_ZERO, SLOT_ONE, SLOT_LEN, TABLE, TEXT, ENTRY_LEN, JOURNAL, JOURNAL_LEN, DATA}
 use Rattle.sg_disk.proofs.Ranges.{range_kept, torn_in, torn_wider}
 use Rattle.sg_disk.proofs.Moments.{weaker}
 use Rattle.sg_disk.proofs.Writes.{one_stable}
 use Rattle.sg_disk.proofs.Standing.{lawful_inside}
+use Rattle.sg_disk.proofs.Extents.{clear_parts, inside_parts}
 
 -- a clause on an area that isn't written
 pub area_kept : (P : List ℕ → Type 0) (a l place n : ℕ) (c d : List ℕ) → Torn place n c d → (a + l ≤ place) ⊎ (place + n ≤ a) → P (range c a l) → P (range d a l)
@@ -44,12 +45,12 @@ segment_kept room place n s c d low high inside clear torn =
     apart (inr above) = inr (omega (arith, above, low))
 
 -- the files' bytes, where no byte of a file is written
-pub files_kept : (room place n : ℕ) (files : List StoredFile) (c d : List ℕ) → DATA ≤ place → place + n ≤ DATA + room → All (λ f. All (IsInside room) f.segments) files → AreClear place n files → Torn place n c d → AreFiles files (range c DATA room) → AreFiles files (range d DATA room)
+pub files_kept : (room place n : ℕ) (files : List StoredFile) (c d : List ℕ) → DATA ≤ place → place + n ≤ DATA + room → All (λ f. All (IsInside room) (taken f)) files → AreClear place n files → Torn place n c d → AreFiles files (range c DATA room) → AreFiles files (range d DATA room)
 files_kept room place n files c d low high inside clear torn held k f lt =
     let file = get_or files k f in
     let was = held k f lt in
     record {
-      there = flat_map_same (λ s. range (range d DATA room) (s.place - DATA) s.size) (λ s. range (range c DATA room) (s.place - DATA) s.size) file.segments (λ j s below. segment_kept room place n (get_or file.segments j s) c d low high (inside k f lt j s below) (clear k f lt j s below) torn) ∙ was.there;
+      there = flat_map_same (λ s. range (range d DATA room) (s.place - DATA) s.size) (λ s. range (range c DATA room) (s.place - DATA) s.size) (parts file) (λ j s below. segment_kept room place n (get_or (parts file) j s) c d low high (inside_parts room file (inside k f lt) j s below) (clear_parts place n file (clear k f lt) j s below) torn) ∙ was.there;
       long = was.long;
       digest = was.digest;
     }
@@ -64,6 +65,7 @@ staged p c d place n low high clear torn stands = record {
       (area_kept (λ (one : List ℕ). AreSlots p.room p.number p.text p.files (range c SLOT_ZERO SLOT_LEN) one) SLOT_ONE SLOT_LEN place n c d torn (inl (omega (arith, low))) stands.slots);
   journal = area_kept (IsJournal p.epoch p.plays p.floor) JOURNAL JOURNAL_LEN place n c d torn (inl (omega (arith, low))) stands.journal;
   files = files_kept p.room place n p.files c d low high (lawful_inside p stands.lawful) clear torn stands.files;
+  seals = stands.seals;
 }
 
 -- a write in the journal's area, which then holds these plays
@@ -76,6 +78,7 @@ recorded p plays floor c d torn lawful journal stands = record {
       (area_kept (λ (one : List ℕ). AreSlots p.room p.number p.text p.files (range c SLOT_ZERO SLOT_LEN) one) SLOT_ONE SLOT_LEN JOURNAL JOURNAL_LEN c d torn (inl (omega arith)) stands.slots);
   journal = journal;
   files = area_kept (AreFiles p.files) DATA p.room JOURNAL JOURNAL_LEN c d torn (inr (omega arith)) stands.files;
+  seals = stands.seals;
 }
 
 -- a write in the slots, which then hold this snapshot
@@ -87,6 +90,7 @@ reslotted p number text files c d torn lawful slots held stands = record {
   slots = slots;
   journal = area_kept (IsJournal p.epoch p.plays p.floor) JOURNAL JOURNAL_LEN SLOT_ZERO (2 * SLOT_LEN) c d torn (inr (omega arith)) stands.journal;
   files = area_kept (AreFiles files) DATA p.room SLOT_ZERO (2 * SLOT_LEN) c d torn (inr (omega arith)) held;
+  seals = stands.seals;
 }
 
 -- A write in an area in which every image is what a read gives: what each image may be, at every moment

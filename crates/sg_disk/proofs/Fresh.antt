@@ -41,4 +41,5 @@ fresh_stands display epoch room c lawful size header zero one closed = record {
   slots = (zero, one);
   journal = (1, omega arith, no_plays epoch (journal_of c) closed);
   files = λ k d lt. absurd (omega (arith, lt));
+  seals = refl;
 }

@@ -2,6 +2,7 @@ pub mod Ranges
 pub mod Parts
 pub mod Moments
 pub mod Writes
+pub mod Keeping
 pub mod Overwrites
 pub mod Steps
 pub mod Logs

@@ -5,10 +5,10 @@ use Rattle.std.proofs.lemmas.List.{get_or_append_left, get_or_push, length_push}
 use Rattle.sg_base.specs.declared.play.PlayBody.{PlayBody}
 use Rattle.sg_disk.specs.View.{View, Only}
 use Rattle.sg_disk.specs.Runs.{LeavesOnly, Quiet}
-use Rattle.sg_disk.specs.Contents.{Contents, StoredFile, Change, IsPlay, IsLawful, IsSnapshot, IsInside, Amid, changed, played}
-use Rattle.sg_disk.specs.StandsFor.{IsOpen, StandsFor, Either, StandsForOne, Two, Settled, Between}
+use Rattle.sg_disk.specs.Contents.{Contents, StoredFile, Change, IsPlay, IsLawful, IsSnapshot, IsInside, Midway, Amid, Along, changed, changed_all, played, taken}
+use Rattle.sg_disk.specs.StandsFor.{IsOpen, StandsFor, Either, StandsForOne, Two, Settled, Between, Made}
 use Rattle.sg_base.specs.declared.limits.TheConstants.{MAX_PLAYS}
-use Rattle.sg_disk.proofs.Moments.{at_end}
+use Rattle.sg_disk.proofs.Moments.{at_end, joined, weaker}
 
 -- what a read gives stands for one of them
 pub between_read : (v : View) (P : Contents → Type 0) → Between v P → StandsForOne P v.bytes
@@ -48,6 +48,9 @@ either_amid p change c (inr later) = (changed p change, inr (inl refl), later)
 pub between_after : (v w : View) (P : Contents → Type 0) → v.told → LeavesOnly (StandsForOne P) v w → (v.told → w.told) → Between w P
 between_after v w P told run tells = record { told = tells told; each = at_end v w (StandsForOne P) run }
 
+pub between_either : (v w : View) (p q : Contents) → v.told → LeavesOnly (Either p q) v w → (v.told → w.told) → Between w (Two p q)
+between_either v w p q told run tells = between_after v w (Two p q) told (weaker v w (Either p q) (StandsForOne (Two p q)) (either_one p q) run) tells
+
 -- after a sync, and calls that change nothing
 pub settled_by : (w : View) (b : List ℕ) (r : Contents) → w.told → Only b w → StandsFor r b → Settled w r
 settled_by w b r told only stands = record { told = told; each = λ c now. subst (λ (d : List ℕ). StandsFor r d) (sym (only c now)) stands }
@@ -57,6 +60,10 @@ settled_quiet n v w p quiet settled = record {
   told = quiet.ran.told settled.told;
   each = λ c now. settled.each c (at_end v w v.images quiet.moments c now);
 }
+
+-- calls that left the disk as it is
+pub settled_unchanged : (v w : View) (p : Contents) → LeavesOnly v.images v w → (v.told → w.told) → Settled v p → Settled w p
+settled_unchanged v w p run tells settled = record { told = tells settled.told; each = λ c now. settled.each c (at_end v w v.images run c now) }
 
 -- a run that leaves only these contents
 pub settled_leaves : (v w : View) (p : Contents) → v.told → LeavesOnly (StandsFor p) v w → (v.told → w.told) → Settled w p
@@ -85,6 +92,7 @@ floor_raised p floor c le stands = record {
   header = stands.header;
   slots = stands.slots;
   files = stands.files;
+  seals = stands.seals;
   journal = let from = stands.journal in (from.0, omega (arith, le, from.1), from.2);
 }
 
@@ -109,10 +117,51 @@ lawful_played p play room is lawful = record {
   few = omega (arith, room, length_push p.plays play);
 }
 
--- all segments of lawful contents lie in the data area
-inside_of : (room number : ℕ) (text : Option (List ℕ)) (files : List StoredFile) → MatchOption text ((number ≡ 0) × (files ≡ [])) (λ t. IsSnapshot room number t files) → All (λ f. All (IsInside room) f.segments) files
+-- all that the files of lawful contents take lies in the data area
+inside_of : (room number : ℕ) (text : Option (List ℕ)) (files : List StoredFile) → MatchOption text ((number ≡ 0) × (files ≡ [])) (λ t. IsSnapshot room number t files) → All (λ f. All (IsInside room) (taken f)) files
 inside_of room number None files none k d lt = absurd (omega (arith, lt, ap length none.1))
 inside_of room number (Some t) files snapshot k d lt = snapshot.inside k d lt
 
-pub lawful_inside : (p : Contents) → IsLawful p → All (λ f. All (IsInside p.room) f.segments) p.files
+pub lawful_inside : (p : Contents) → IsLawful p → All (λ f. All (IsInside p.room) (taken f)) p.files
 lawful_inside p lawful = inside_of p.room p.number p.text p.files lawful.snapshot
+
+-- changes that were made one behind another
+pub along_start : (p : Contents) (changes : List Change) → Along p changes p
+along_start p [] = refl
+along_start p (change ∷ changes) = inl refl
+
+pub along_front : (p : Contents) (first rest : List Change) (r : Contents) → Along p first r → Along p (first ++ rest) r
+along_front p [] rest r is = subst (λ (q : Contents). Along p rest q) (sym is) (along_start p rest)
+along_front p (change ∷ first) rest r (inl same) = inl same
+along_front p (change ∷ first) rest r (inr (inl midway)) = inr (inl midway)
+along_front p (change ∷ first) rest r (inr (inr later)) = inr (inr (along_front (changed p change) first rest r later))
+
+pub along_more : (p : Contents) (first rest : List Change) (r : Contents) → Along (changed_all p first) rest r → Along p (first ++ rest) r
+along_more p [] rest r later = later
+along_more p (change ∷ first) rest r later = inr (inr (along_more (changed p change) first rest r later))
+
+-- one change alone
+pub along_amid : (p : Contents) (change : Change) (r : Contents) → Amid p change r → Along p (change ∷ []) r
+along_amid p change r (inl before) = inl before
+along_amid p change r (inr (inl later)) = inr (inr later)
+along_amid p change r (inr (inr midway)) = inr (inl midway)
+
+pub either_along : (p : Contents) (change : Change) (c : List ℕ) → Either p (changed p change) c → StandsForOne (Along p (change ∷ [])) c
+either_along p change c (inl before) = (p, inl refl, before)
+either_along p change c (inr later) = (changed p change, inr (inr refl), later)
+
+-- what calls made of the contents, and then others
+pub made_joined : (first rest : List Change) (u v w : View) (p : Contents) → Made first u v p → Made rest v w (changed_all p first) → Made (first ++ rest) u w p
+made_joined first rest u v w p one two = record {
+  moments = joined u v w (StandsForOne (Along p (first ++ rest)))
+      (weaker u v (StandsForOne (Along p first)) (StandsForOne (Along p (first ++ rest))) (λ c is. (is.0, along_front p first rest is.0 is.1, is.2)) one.moments)
+      (weaker v w (StandsForOne (Along (changed_all p first) rest)) (StandsForOne (Along p (first ++ rest))) (λ c is. (is.0, along_more p first rest is.0 is.1, is.2)) two.moments);
+  told = λ told. two.told (one.told told);
+}
+
+-- the changes are over, with the disk settled
+pub made_settled : (v w : View) (p : Contents) → v.told → Made [] v w p → Settled w p
+made_settled v w p told made = record {
+  told = made.told told;
+  each = λ c now. let one = at_end v w (StandsForOne (Along p [])) made.moments c now in subst (λ (r : Contents). StandsFor r c) one.1 one.2;
+}

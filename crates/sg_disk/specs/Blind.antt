@@ -1,5 +1,5 @@
 -- A disk that tells its length and its count of faults, and nothing of what it holds.
-use Rattle.std.specs.Prelude.{ℕ, [], None}
+use Rattle.std.specs.Prelude.{◌≡◌, ℕ, [], None, true}
 use Rattle.sg_disk.specs.View.{View}
 use Rattle.sg_disk.specs.declared.real.FileDisk.{FileDisk}
 
@@ -22,3 +22,7 @@ blind_view size faults = record {
 -- a disk over a real file
 abbrev pub file_view : {R F : Type 0} → FileDisk R F → View
 file_view disk = blind_view disk.size disk.faults
+
+-- a sync of it has failed
+abbrev pub has_failed_sync : {R F : Type 0} → FileDisk R F → Type 0
+has_failed_sync disk = disk.broken ≡ true

@@ -1,21 +1,51 @@
 -- What a store holds, as the layers above the disk speak of it.
-use Rattle.std.specs.Prelude.{◌≡◌, ◌⊎◌, ℕ, ◌+◌, ◌%◌, ◌^◌, ◌<◌, ◌≤◌, List, [], ◌∷◌, ◌++◌, length, Option, None, Some, MatchOption, All, AllPairs}
+use Rattle.std.specs.Prelude.{◌≡◌, ◌⊎◌, ℕ, ◌+◌, ◌-◌, ◌*◌, ◌%◌, ◌^◌, ◌<◌, ◌≤◌, min, List, [], ◌∷◌, ◌++◌, length, map, Option, None, Some, MatchOption, All, AllPairs}
 use Rattle.std.specs.List.{flat_map}
 use Rattle.sg_base.specs.declared.file.Listed.{Listed}
 use Rattle.sg_base.specs.declared.play.PlayBody.{PlayBody}
 use Rattle.sg_base.specs.declared.limits.TheConstants.{LAST_MOMENT, ROOM_UNIT, MAX_ROOM, MANIFEST_FILES, MANIFEST_TEXT, MAX_FILE_LEN, MAX_PLAYS}
-use Rattle.sg_disk.specs.declared.places.TheConstants.{DATA}
+use Rattle.sg_disk.specs.declared.places.TheConstants.{DATA, PAGE}
 
 -- so many bytes of the disk at a place
 pub record Segment : Type 0 where
   pub place : ℕ
   pub size : ℕ
 
--- a file of a snapshot, where its bytes stand, and these bytes
+-- where a file stands: in one range from a place, as in format 1, or in pages of the data area
+pub data Stand : Type 0 where
+  Extent : ℕ → Stand
+  Pages : List ℕ → Stand
+
+-- a file of a snapshot, where it stands, and its bytes
 pub record StoredFile : Type 0 where
   pub listed : Listed
-  pub segments : List Segment
+  pub stand : Stand
   pub bytes : List ℕ
+
+-- a page of the data area
+abbrev pub page_at : ℕ → Segment
+page_at page = record { place = DATA + PAGE * page; size = PAGE }
+
+-- what a file of n bytes takes of the data area: its range, or its pages whole
+abbrev pub taken_at : ℕ → Stand → List Segment
+taken_at n (Extent place) = record { place = place; size = n } ∷ []
+taken_at n (Pages pages) = map page_at pages
+
+abbrev pub taken : StoredFile → List Segment
+taken f = taken_at f.listed.length f.stand
+
+-- where n bytes stand in pages, one part behind another; of the last page only what is left
+abbrev pub parts_of : ℕ → List ℕ → List Segment
+parts_of n [] = []
+parts_of n (page ∷ pages) = record { place = DATA + PAGE * page; size = min n PAGE } ∷ parts_of (n - PAGE) pages
+
+-- where the bytes of a file stand
+abbrev pub parts_at : ℕ → Stand → List Segment
+parts_at n (Extent place) = record { place = place; size = n } ∷ []
+parts_at n (Pages pages) = parts_of n pages
+
+abbrev pub parts : StoredFile → List Segment
+parts f = parts_at f.listed.length f.stand
 
 -- What a store stands for. Without a snapshot there is no text.
 -- The play with number n is the one at n - 1; those below the floor needn't be held
@@ -26,20 +56,21 @@ pub record Contents : Type 0 where
   pub number : ℕ  -- the switch number
   pub text : Option (List ℕ)  -- the manifest of the snapshot
   pub files : List StoredFile
+  pub seals : List StoredFile  -- the sealed files that outlive a crash: none in format 1
   pub plays : List PlayBody
   pub floor : ℕ
 
--- the segments of all files
-abbrev pub segments_of : List StoredFile → List Segment
-segments_of files = flat_map (λ f. f.segments) files
+-- what all files take
+abbrev pub all_taken : List StoredFile → List Segment
+all_taken files = flat_map taken files
 
 -- no byte of a segment is one of these n at a place
 abbrev pub IsClear : ℕ → ℕ → Segment → Type 0
 IsClear place n s = (s.place + s.size ≤ place) ⊎ (place + n ≤ s.place)
 
--- no byte of a file is one of these n at a place
+-- no byte that a file takes is one of these n at a place
 abbrev pub AreClear : ℕ → ℕ → List StoredFile → Type 0
-AreClear place n files = All (λ f. All (IsClear place n) f.segments) files
+AreClear place n files = All (λ f. All (IsClear place n) (taken f)) files
 
 -- a segment lies in the data area
 abbrev pub IsInside : ℕ → Segment → Type 0
@@ -53,9 +84,9 @@ pub record AreListed (files : List StoredFile) : Type 0 where
   pub lengths : All (λ f. (1 ≤ f.listed.length) × (f.listed.length ≤ MAX_FILE_LEN)) files
   pub digests : All (λ f. length f.listed.md5 ≡ 16) files
 
--- in format 1 a file is one segment of its length
+-- in format 1 a file stands in one range
 abbrev pub IsExtent : StoredFile → Type 0
-IsExtent f = (place : ℕ) × (f.segments ≡ record { place = place; size = f.listed.length } ∷ [])
+IsExtent f = (place : ℕ) × (f.stand ≡ Extent place)
 
 -- an opening finds no fault in a slot with this number, text and table
 pub record IsSnapshot (room number : ℕ) (text : List ℕ) (files : List StoredFile) : Type 0 where
@@ -63,9 +94,9 @@ pub record IsSnapshot (room number : ℕ) (text : List ℕ) (files : List Stored
   pub long : (1 ≤ length text) × (length text ≤ MANIFEST_TEXT)
   pub listed : AreListed files
   pub extents : All IsExtent files
-  pub inside : All (λ f. All (IsInside room) f.segments) files
-  -- no two segments overlap
-  pub apart : AllPairs (λ s t. IsClear t.place t.size s) (segments_of files)
+  pub inside : All (λ f. All (IsInside room) (taken f)) files
+  -- no byte is taken twice
+  pub apart : AllPairs (λ s t. IsClear t.place t.size s) (all_taken files)
 
 -- the length of a data area
 pub record IsRoom (room : ℕ) : Type 0 where
@@ -100,6 +131,7 @@ fresh display epoch room = record {
   number = 0;
   text = None;
   files = [];
+  seals = [];
   plays = [];
   floor = 1;
 }
@@ -122,6 +154,11 @@ abbrev pub changed : Contents → Change → Contents
 changed p (Append play) = played p play
 changed p (Switch text files) = switched p text files
 
+-- the contents after changes, in their order
+abbrev pub changed_all : Contents → List Change → Contents
+changed_all p [] = p
+changed_all p (change ∷ changes) = changed_all (changed p change) changes
+
 -- Contents that may stand while a change is made, other than those before and after it: none, since each takes place
 -- by one byte
 abbrev pub Midway : Contents → Change → Contents → Type 0
@@ -131,3 +168,8 @@ Midway p (Switch text files) r = ⊥
 -- the contents that may stand while a change is made
 abbrev pub Amid : Contents → Change → Contents → Type 0
 Amid p change r = (r ≡ p) ⊎ (r ≡ changed p change) ⊎ Midway p change r
+
+-- the contents after some first of these changes, or midway of the next
+abbrev pub Along : Contents → List Change → Contents → Type 0
+Along p [] r = r ≡ p
+Along p (change ∷ changes) r = (r ≡ p) ⊎ (Midway p change r ⊎ Along (changed p change) changes r)

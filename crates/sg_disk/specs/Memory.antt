@@ -5,6 +5,7 @@ use Rattle.sg_disk.specs.Fuse.{stop_of}
 use Rattle.sg_disk.specs.History.{picked}
 use Rattle.sg_disk.specs.HistoryLaws.{history_view}
 use Rattle.sg_disk.specs.declared.fuses.Fuse.{Fuse}
+use Rattle.sg_disk.specs.declared.history.Log.{Log}
 use Rattle.sg_disk.specs.declared.history.Pick.{Pick}
 use Rattle.sg_disk.specs.declared.memory.MemDisk.{MemDisk}
 
@@ -16,6 +17,10 @@ mem_view m = history_view m.log.first.items (reverse m.log.calls.items) m.log.fi
 -- the image that a pick names
 abbrev pub image_of : Pick → MemDisk → List ℕ
 image_of pick m = picked pick m.log.first.items (reverse m.log.calls.items)
+
+-- what it had at first, and each call that has changed it since
+abbrev pub log_of : MemDisk → Log
+log_of m = m.log
 
 abbrev pub fuse_of : MemDisk → Fuse
 fuse_of m = m.fuse

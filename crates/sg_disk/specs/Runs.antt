@@ -42,3 +42,9 @@ pub record Within (place n : ℕ) (old new : View) : Type 0 where
 -- every image has at a place the n bytes that a read gives there
 abbrev pub HasOne : ℕ → ℕ → View → Type 0
 HasOne place n v = (c : List ℕ) → v.images c → range c place n ≡ range v.bytes place n
+
+-- At every moment since old each image has at a place the n bytes that some image of old has there, and a read gives there
+-- what it gave
+pub record Keeps (place n : ℕ) (old new : View) : Type 0 where
+  pub moments : LeavesOnly (λ c. (d : List ℕ) × old.images d × (range c place n ≡ range d place n)) old new
+  pub bytes : old.told → range new.bytes place n ≡ range old.bytes place n

@@ -5,7 +5,9 @@ use Rattle.std.specs.List.{flat_map}
 use Rattle.sg_base.specs.declared.play.PlayBody.{PlayBody}
 use Rattle.md5.specs.Md5.{md5}
 use Rattle.sg_disk.specs.View.{View, range}
-use Rattle.sg_disk.specs.Contents.{Segment, StoredFile, Contents, IsSnapshot, IsLawful}
+use Rattle.sg_disk.specs.Runs.{LeavesOnly}
+use Rattle.sg_disk.specs.Contents.{Segment, Stand, StoredFile, Contents, Change, IsSnapshot, IsLawful, Along, parts}
+use Rattle.sg_disk.specs.Contents.{Extent, Pages}
 use Rattle.sg_base.specs.declared.limits.TheConstants.{JOURNAL_RECORDS}
 use Rattle.sg_disk.specs.declared.places.TheConstants.{FIELDS, HEADER_LEN, VERSION, MARK, DISPLAY, EPOCH, ROOM, SLOT_ZERO, SLOT_ONE, SLOT_LEN, NUMBER, TEXT_LEN, COUNT, TABLE, TEXT, ENTRY_LEN, JOURNAL, JOURNAL_LEN, RECORD_LEN, DATA}
 
@@ -25,15 +27,15 @@ pub record IsHeader (display epoch room : ℕ) (header : List ℕ) : Type 0 wher
   pub epoch_is : range header EPOCH 4 ≡ le32 epoch
   pub room_is : range header ROOM 8 ≡ le64 room
 
--- where a file begins
-abbrev pub place_of : List Segment → ℕ
-place_of [] = 0
-place_of (s ∷ segments) = s.place
+-- where a file of one range begins
+abbrev pub place_of : Stand → ℕ
+place_of (Extent place) = place
+place_of (Pages pages) = 0
 
 -- a table entry: medium, length, MD5 and place
 unfoldable pub entry : StoredFile → List ℕ
 entry f = le32 f.listed.media.0 ++ le32 f.listed.length ++ f.listed.md5
-    ++ le64 (place_of f.segments)
+    ++ le64 (place_of f.stand)
 
 -- the fields of a slot, without its gate
 pub record HasFields (number : ℕ) (text : List ℕ) (files : List StoredFile)
@@ -74,7 +76,7 @@ bytes_at area segments = flat_map (λ s. range area (s.place - DATA) s.size) seg
 
 -- a file's bytes stand in the data area, with the listed length and MD5 (RFC 1321)
 pub record IsHeld (area : List ℕ) (f : StoredFile) : Type 0 where
-  pub there : bytes_at area f.segments ≡ f.bytes
+  pub there : bytes_at area (parts f) ≡ f.bytes
   pub long : length f.bytes ≡ f.listed.length
   pub digest : md5 f.bytes ≡ f.listed.md5
 
@@ -113,15 +115,20 @@ IsJournal epoch plays floor area = (from : ℕ) × (from ≤ floor) × HoldsPlay
 abbrev pub journal_of : List ℕ → List ℕ
 journal_of c = range c JOURNAL JOURNAL_LEN
 
+-- the length of a disk whose data area has this length
+abbrev pub disk_len : ℕ → ℕ
+disk_len room = DATA + room
+
 -- the bytes of a disk stand for these contents, which are lawful
 pub record StandsFor (p : Contents) (c : List ℕ) : Type 0 where
   pub lawful : IsLawful p
-  pub size : length c ≡ DATA + p.room
+  pub size : length c ≡ disk_len p.room
   pub header : IsHeader p.display p.epoch p.room (range c 0 HEADER_LEN)
   pub slots : AreSlots p.room p.number p.text p.files (range c SLOT_ZERO SLOT_LEN)
       (range c SLOT_ONE SLOT_LEN)
   pub journal : IsJournal p.epoch p.plays p.floor (journal_of c)
   pub files : AreFiles p.files (range c DATA p.room)
+  pub seals : p.seals ≡ []
 
 -- they stand for the ones or for the others
 abbrev pub Either : Contents → Contents → List ℕ → Type 0
@@ -144,6 +151,11 @@ pub record Settled (v : View) (p : Contents) : Type 0 where
 pub record Between (v : View) (P : Contents → Type 0) : Type 0 where
   pub told : v.told
   pub each : (c : List ℕ) → v.images c → StandsForOne P c
+
+-- At every moment since old each image stands for the contents along these changes
+pub record Made (changes : List Change) (old new : View) (p : Contents) : Type 0 where
+  pub moments : LeavesOnly (StandsForOne (Along p changes)) old new
+  pub told : old.told → new.told
 
 -- every image has in the journal's area what a read gives there
 abbrev pub HasOneJournal : View → Type 0

@@ -56,6 +56,7 @@ impl Fuse {
 pub fn fate_of_listed(fate: Fate) -> Fate
     ensures met { (result ≡ Fate.Meets) ↔ (fate ≡ Fate.Meets) }
     ensures listed { result ≡ Fate.Passes → ⊥ }
+    ensures fails { fate ≡ Fate.Fails → result ≡ Fate.Fails }
 {
     match fate {
         Fate::Meets => Fate::Meets,

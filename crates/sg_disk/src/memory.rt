@@ -1,8 +1,8 @@
 // A disk in memory.
-ghost use Rattle.std.specs.Prelude.{◌≡◌, ◌≢◌, ◌+◌, ◌≤◌, [], length, min, Contains, OnOk, OnErr, IfOk, IsOk};
+ghost use Rattle.std.specs.Prelude.{◌≡◌, ◌≢◌, ◌+◌, ◌≤◌, [], length, min, Contains, OnOk, OnErr, IfOk, IsOk, IsErr};
 ghost use Rattle.sg_base.specs.Causes.{Rose};
 ghost use Rattle.sg_base.specs.Stops.{Lowers, Falls, LowersByOne};
-ghost use Rattle.sg_disk.specs.View.{range, Same, Passed, Failed, Only};
+ghost use Rattle.sg_disk.specs.View.{range, Same, Written, Torn, Sized, Resized, Passed, Failed, Only};
 ghost use Rattle.sg_disk.specs.Fuse.{stop_of};
 
 use crate::device::{Disk, DiskFailed};
@@ -113,6 +113,7 @@ impl MemDisk {
         ensures by_one { LowersByOne (stop_of self.old.fuse) (stop_of self.new.fuse) }
         ensures idle { self.old.fuse ≡ Fuse.Idle → self.old.failing.items ≡ []
             → result ≡ Fate.Passes }
+        ensures faulted { self.old.fuse ≡ Fuse.Fault 0 → result ≡ Fate.Fails }
         ensures listed { Contains self.old.failing.items self.old.begun → result ≢ Fate.Passes }
         ensures begun { self.new.begun ≡ min (self.old.begun + 1) u64.MAX }
         ensures failing { self.new.failing ≡ self.old.failing }
@@ -138,7 +139,7 @@ impl MemDisk {
 }
 
 impl Disk for MemDisk {
-    ghost use Rattle.sg_disk.specs.Memory.{mem_view, fuse_of, failing_of};
+    ghost use Rattle.sg_disk.specs.Memory.{mem_view, fuse_of, failing_of, log_of};
 
     ghost view = { mem_view };
 
@@ -175,7 +176,16 @@ impl Disk for MemDisk {
         }
     }
 
-    fn write_at(&mut self, place: u64, bytes: &[u8]) -> Result<(), DiskFailed> {
+    fn write_at(&mut self, place: u64, bytes: &[u8]) -> Result<(), DiskFailed>
+        requires { place + length bytes.now ≤ (mem_view self.old).size }
+        ensures passed { OnOk result (Passed (Written place bytes.now)
+            (Torn place (length bytes.now)) (mem_view self.old) (mem_view self.new)) }
+        ensures failed { OnErr result (Failed (Torn place (length bytes.now))
+            (mem_view self.old) (mem_view self.new)) }
+        ensures size { (mem_view self.new).size ≡ (mem_view self.old).size }
+        ensures faulted { fuse_of self.old ≡ Fuse.Fault 0
+            → IsErr result × (log_of self.new ≡ log_of self.old) }
+    {
         let fate = self.begin();
         if fate == Fate::Fails {
             return Err(self.fail());
@@ -189,7 +199,15 @@ impl Disk for MemDisk {
         Ok(())
     }
 
-    fn resize(&mut self, len: u64) -> Result<(), DiskFailed> {
+    fn resize(&mut self, len: u64) -> Result<(), DiskFailed>
+        ensures passed { OnOk result (Passed (Sized len) (Resized len)
+            (mem_view self.old) (mem_view self.new)) }
+        ensures failed { OnErr result (Failed (Resized len)
+            (mem_view self.old) (mem_view self.new)) }
+        ensures size { OnOk result ((mem_view self.new).size ≡ len) }
+        ensures faulted { fuse_of self.old ≡ Fuse.Fault 0
+            → IsErr result × (log_of self.new ≡ log_of self.old) }
+    {
         let fate = self.begin();
         if fate == Fate::Fails {
             return Err(self.fail());
@@ -203,7 +221,15 @@ impl Disk for MemDisk {
         Ok(())
     }
 
-    fn sync(&mut self) -> Result<(), DiskFailed> {
+    fn sync(&mut self) -> Result<(), DiskFailed>
+        ensures durable { OnOk result ((mem_view self.old).told
+            → Only (mem_view self.old).bytes (mem_view self.new)) }
+        ensures passed { OnOk result (Passed Same Same (mem_view self.old) (mem_view self.new)) }
+        ensures failed { OnErr result (Failed Same (mem_view self.old) (mem_view self.new)) }
+        ensures size { (mem_view self.new).size ≡ (mem_view self.old).size }
+        ensures faulted { fuse_of self.old ≡ Fuse.Fault 0
+            → IsErr result × (log_of self.new ≡ log_of self.old) }
+    {
         match self.begin() {
             Fate::Passes => {}
             Fate::Meets | Fate::Fails => return Err(self.fail()),

@@ -55,8 +55,10 @@ pub const JOURNAL_LEN: u64 = 4_194_304;
 
 pub const RECORD_LEN: u64 = 64;
 
-/// Where the data area begins. The disk's length is this and the length of the data area.
+/// Where the data area begins, and the length of a page of it.
 pub const DATA: u64 = 6_336_512;
+
+pub const PAGE: u64 = 65_536;
 
 /// The disk calls that a change is promised to take: at least so many pass where it answers Ok.
 pub const SWITCH_CALLS: u64 = 8;

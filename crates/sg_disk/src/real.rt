@@ -1,5 +1,6 @@
 // A disk over a file of the operating system. It is the trusted edge: no contract can say what a file holds.
-ghost use Rattle.std.specs.Prelude.{◌≡◌, OnOk};
+ghost use Rattle.std.specs.Prelude.{◌≡◌, ◌+◌, ◌≤◌, length, true, OnOk, OnErr, IfOk, IsErr};
+ghost use Rattle.sg_disk.specs.View.{range, Same, Written, Torn, Sized, Resized, Passed, Failed, Only};
 ghost use Rattle.sg_base.specs.Causes.{Rose};
 
 use crate::device::{Disk, DiskFailed};
@@ -11,6 +12,9 @@ use std::rt::Files;
 
 /// A disk over the file at a path. The first call opens the file, and makes it where it isn't there. A call that the
 /// system refuses, or does in part, is a counted fault. Each read and each write is one call of the system.
+///
+/// After a sync that failed every call fails: what is stable isn't known any more, and only a machine that was started anew
+/// reads it back.
 #[derive(Drop)]
 pub struct FileDisk<R: Files<File = File>> {
     rt: R,
@@ -20,6 +24,8 @@ pub struct FileDisk<R: Files<File = File>> {
     size: u64,
     // Whether the file's length and its entry in the folder are stable.
     settled: bool,
+    // Whether a sync has failed. The system may have dropped what it couldn't write, and would let the next sync pass.
+    broken: bool,
     faults: u64,
 }
 
@@ -37,6 +43,7 @@ impl<R: Files<File = File>> FileDisk<R> {
             file: None,
             size: 0,
             settled: false,
+            broken: false,
             faults: 0,
         }
     }
@@ -52,16 +59,21 @@ impl<R: Files<File = File>> FileDisk<R> {
     fn fail(&mut self) -> DiskFailed
         ensures size { self.new.size ≡ self.old.size }
         ensures faults { Rose self.old.faults self.new.faults }
+        ensures broken { self.new.broken ≡ self.old.broken }
     {
         self.faults = self.faults.saturating_add(1);
         DiskFailed
     }
 
-    // Opens the file, where no call has yet.
+    // Opens the file, where no call has yet. After a failed sync it is refused.
     fn open(&mut self) -> io::Result<()>
         ensures size { self.new.size ≡ self.old.size }
         ensures faults { self.new.faults ≡ self.old.faults }
+        ensures broken { self.old.broken ≡ true → IsErr result × (self.new.broken ≡ true) }
     {
+        if self.broken {
+            return Err(io::ErrorKind::Other.into());
+        }
         if self.file.is_none() {
             let mut how = OpenOptions::new();
             how.read(true).write(true).create(true);
@@ -73,6 +85,7 @@ impl<R: Files<File = File>> FileDisk<R> {
     fn measure(&mut self) -> io::Result<u64>
         ensures size { self.new.size ≡ self.old.size }
         ensures faults { self.new.faults ≡ self.old.faults }
+        ensures broken { self.old.broken ≡ true → IsErr result × (self.new.broken ≡ true) }
     {
         self.open()?;
         Ok(opened(&self.file)?.metadata()?.len())
@@ -81,6 +94,7 @@ impl<R: Files<File = File>> FileDisk<R> {
     fn read_whole(&mut self, place: u64, into: &mut [u8]) -> io::Result<()>
         ensures size { self.new.size ≡ self.old.size }
         ensures faults { self.new.faults ≡ self.old.faults }
+        ensures broken { self.old.broken ≡ true → IsErr result × (self.new.broken ≡ true) }
     {
         self.open()?;
         let wanted = into.len();
@@ -91,6 +105,7 @@ impl<R: Files<File = File>> FileDisk<R> {
     fn write_whole(&mut self, place: u64, bytes: &[u8]) -> io::Result<()>
         ensures size { self.new.size ≡ self.old.size }
         ensures faults { self.new.faults ≡ self.old.faults }
+        ensures broken { self.old.broken ≡ true → IsErr result × (self.new.broken ≡ true) }
     {
         self.open()?;
         let written = opened(&self.file)?.write_at(bytes, place)?;
@@ -100,6 +115,7 @@ impl<R: Files<File = File>> FileDisk<R> {
     fn set_len(&mut self, len: u64) -> io::Result<()>
         ensures size { self.new.size ≡ self.old.size }
         ensures faults { self.new.faults ≡ self.old.faults }
+        ensures broken { self.old.broken ≡ true → IsErr result × (self.new.broken ≡ true) }
     {
         self.open()?;
         self.settled = false;
@@ -110,6 +126,7 @@ impl<R: Files<File = File>> FileDisk<R> {
     fn settle(&mut self) -> io::Result<()>
         ensures size { self.new.size ≡ self.old.size }
         ensures faults { self.new.faults ≡ self.old.faults }
+        ensures broken { self.old.broken ≡ true → IsErr result × (self.new.broken ≡ true) }
     {
         self.open()?;
         if self.settled {
@@ -148,11 +165,17 @@ fn folder_of(path: &str) -> &str {
 }
 
 impl<R: Files<File = File>> Disk for FileDisk<R> {
-    ghost use Rattle.sg_disk.specs.Blind.{file_view};
+    ghost use Rattle.sg_disk.specs.Blind.{file_view, has_failed_sync};
 
     ghost view = { file_view };
 
-    fn len(&mut self) -> Result<u64, DiskFailed> {
+    fn len(&mut self) -> Result<u64, DiskFailed>
+        ensures ok { IfOk result (λ n. n ≡ (file_view self.new).size) }
+        ensures passed { OnOk result (Passed Same Same (file_view self.old) (file_view self.new)) }
+        ensures failed { OnErr result (Failed Same (file_view self.old) (file_view self.new)) }
+        ensures size { OnErr result ((file_view self.new).size ≡ (file_view self.old).size) }
+        ensures broken { has_failed_sync self.old → IsErr result × has_failed_sync self.new }
+    {
         match self.measure() {
             Ok(len) => {
                 self.size = len;
@@ -162,21 +185,44 @@ impl<R: Files<File = File>> Disk for FileDisk<R> {
         }
     }
 
-    fn read(&mut self, place: u64, into: &mut [u8]) -> Result<(), DiskFailed> {
+    fn read(&mut self, place: u64, into: &mut [u8]) -> Result<(), DiskFailed>
+        requires { place + length into.old ≤ (file_view self.old).size }
+        ensures ok { OnOk result ((file_view self.old).told
+            → into.new ≡ range (file_view self.old).bytes place (length into.old)) }
+        ensures passed { OnOk result (Passed Same Same (file_view self.old) (file_view self.new)) }
+        ensures failed { OnErr result (Failed Same (file_view self.old) (file_view self.new)) }
+        ensures size { (file_view self.new).size ≡ (file_view self.old).size }
+        ensures broken { has_failed_sync self.old → IsErr result × has_failed_sync self.new }
+    {
         match self.read_whole(place, into) {
             Ok(()) => Ok(()),
             Err(_) => Err(self.fail()),
         }
     }
 
-    fn write_at(&mut self, place: u64, bytes: &[u8]) -> Result<(), DiskFailed> {
+    fn write_at(&mut self, place: u64, bytes: &[u8]) -> Result<(), DiskFailed>
+        requires { place + length bytes.now ≤ (file_view self.old).size }
+        ensures passed { OnOk result (Passed (Written place bytes.now)
+            (Torn place (length bytes.now)) (file_view self.old) (file_view self.new)) }
+        ensures failed { OnErr result (Failed (Torn place (length bytes.now))
+            (file_view self.old) (file_view self.new)) }
+        ensures size { (file_view self.new).size ≡ (file_view self.old).size }
+        ensures broken { has_failed_sync self.old → IsErr result × has_failed_sync self.new }
+    {
         match self.write_whole(place, bytes) {
             Ok(()) => Ok(()),
             Err(_) => Err(self.fail()),
         }
     }
 
-    fn resize(&mut self, len: u64) -> Result<(), DiskFailed> {
+    fn resize(&mut self, len: u64) -> Result<(), DiskFailed>
+        ensures passed { OnOk result (Passed (Sized len) (Resized len)
+            (file_view self.old) (file_view self.new)) }
+        ensures failed { OnErr result (Failed (Resized len)
+            (file_view self.old) (file_view self.new)) }
+        ensures size { OnOk result ((file_view self.new).size ≡ len) }
+        ensures broken { has_failed_sync self.old → IsErr result × has_failed_sync self.new }
+    {
         match self.set_len(len) {
             Ok(()) => {
                 self.size = len;
@@ -186,10 +232,21 @@ impl<R: Files<File = File>> Disk for FileDisk<R> {
         }
     }
 
-    fn sync(&mut self) -> Result<(), DiskFailed> {
+    fn sync(&mut self) -> Result<(), DiskFailed>
+        ensures durable { OnOk result ((file_view self.old).told
+            → Only (file_view self.old).bytes (file_view self.new)) }
+        ensures passed { OnOk result (Passed Same Same (file_view self.old) (file_view self.new)) }
+        ensures failed { OnErr result (Failed Same (file_view self.old) (file_view self.new)) }
+        ensures size { (file_view self.new).size ≡ (file_view self.old).size }
+        ensures broken { has_failed_sync self.old → IsErr result × has_failed_sync self.new }
+        ensures breaks { OnErr result (has_failed_sync self.new) }
+    {
         match self.settle() {
             Ok(()) => Ok(()),
-            Err(_) => Err(self.fail()),
+            Err(_) => {
+                self.broken = true;
+                Err(self.fail())
+            }
         }
     }
 }

@@ -61,8 +61,8 @@ oldest_at j full = omega (arith, full.round, j.starts)
 
 closing_journal : (v : View) (j : Journal) (p : Contents) (area : List ℕ) → IsFullRound j → IsReady v j p → Torn (RECORD_LEN * next_record j) 1 (journal_of v.bytes) area → IsJournal p.epoch p.plays p.floor area
 closing_journal v j p area full ready torn = elim (cases_eq (gate area (next_record j)) 1) [
-  | inl stands ↦ (j.oldest, omega (arith, j.known, ready.first), still_open p.epoch j.oldest (next_record j) p.plays (journal_of v.bytes) area (oldest_at j full) (omega (arith, full.round, ready.next, j.starts)) torn stands ready.held)
-  | inr shut ↦ (j.oldest + 1, omega (arith, full.acknowledged, ready.first), closed p.epoch j.oldest (next_record j) p.plays (journal_of v.bytes) area (oldest_at j full) (omega (arith, full.round, ready.next, j.starts)) torn shut ready.held)
+  | inl stands ↦ (j.oldest, omega (arith, j.known, ready.agrees.first), still_open p.epoch j.oldest (next_record j) p.plays (journal_of v.bytes) area (oldest_at j full) (omega (arith, full.round, ready.agrees.next, j.starts)) torn stands ready.agrees.held)
+  | inr shut ↦ (j.oldest + 1, omega (arith, full.acknowledged, ready.agrees.first), closed p.epoch j.oldest (next_record j) p.plays (journal_of v.bytes) area (oldest_at j full) (omega (arith, full.round, ready.agrees.next, j.starts)) torn shut ready.agrees.held)
 ]
 
 -- the closing of the oldest record, at every moment
@@ -80,7 +80,7 @@ closed_plays v w j p place full at size within written ready =
     let torn = area_written v w JOURNAL JOURNAL_LEN (RECORD_LEN * next_record j) 1 told (gate_in (next_of j - 1)) here in
     let zero : gate (journal_of w.bytes) (next_record j) ≡ 0 = area_byte_written v.bytes w.bytes JOURNAL JOURNAL_LEN (RECORD_LEN * next_record j) 0 is (omega arith) (omega (arith, size, v.sized told)) in
     let shut : gate (journal_of w.bytes) (next_record j) ≢ 1 = λ one. omega (arith, zero, one) in
-    closed p.epoch j.oldest (next_record j) p.plays (journal_of v.bytes) (journal_of w.bytes) (oldest_at j full) (omega (arith, full.round, ready.next, j.starts)) torn shut ready.held
+    closed p.epoch j.oldest (next_record j) p.plays (journal_of v.bytes) (journal_of w.bytes) (oldest_at j full) (omega (arith, full.round, ready.agrees.next, j.starts)) torn shut ready.agrees.held
 
 pub closing_ready : (v w : View) (j new : Journal) (place : ℕ) → IsFullRound j → new.oldest ≡ j.oldest + 1 → new.first ≡ j.first → new.epoch ≡ j.epoch → plays_of new ≡ plays_of j → place ≡ JOURNAL + RECORD_LEN * next_record j → DATA ≤ v.size → Within place 1 v w → (v.told → w.bytes ≡ put v.bytes place (0 ∷ [])) → (v.told → Only (put v.bytes place (0 ∷ [])) w) → (v.told → w.told) → (p : Contents) → IsReady v j p → IsReady w new p
 closing_ready v w j new place full oldest first epoch plays at size within written durable tells p ready =
@@ -88,11 +88,13 @@ closing_ready v w j new place full oldest first epoch plays at size within writt
     record {
       settled = settled_leaves v w p told (closing_moments v w j place full at within p ready) tells;
       one = one_written w (put v.bytes place (0 ∷ [])) JOURNAL JOURNAL_LEN (written told) (durable told);
-      held = subst (λ (n : ℕ). HoldsPlays p.epoch n p.plays (journal_of w.bytes)) (sym oldest) (closed_plays v w j p place full at size within written ready);
-      first = first ∙ ready.first;
-      next = ap (λ (n : ℕ). n + length new.plays.items) first ∙ ap (λ (l : List PlayBody). j.first + length l) plays ∙ ready.next;
-      plays = plays ∙ ready.plays;
-      epoch = epoch ∙ ready.epoch;
+      agrees = record {
+        held = subst (λ (n : ℕ). HoldsPlays p.epoch n p.plays (journal_of w.bytes)) (sym oldest) (closed_plays v w j p place full at size within written ready);
+        first = first ∙ ready.agrees.first;
+        next = ap (λ (n : ℕ). n + length new.plays.items) first ∙ ap (λ (l : List PlayBody). j.first + length l) plays ∙ ready.agrees.next;
+        plays = plays ∙ ready.agrees.plays;
+        epoch = epoch ∙ ready.agrees.epoch;
+      };
     }
 
 -- what the recording of a play needs: its record is free, and it is a play
@@ -102,20 +104,20 @@ pub record IsFree (j : Journal) (play : PlayBody) : Type 0 where
   pub is : IsPlay play
 
 free_next : (v : View) (j : Journal) (p : Contents) (play : PlayBody) → IsFree j play → IsReady v j p → length p.plays + 1 < j.oldest + JOURNAL_RECORDS
-free_next v j p play free ready = omega (arith, free.free, ready.next)
+free_next v j p play free ready = omega (arith, free.free, ready.agrees.next)
 
 next_at : (v : View) (j : Journal) (p : Contents) → IsReady v j p → next_record j ≡ length p.plays % JOURNAL_RECORDS
-next_at v j p ready = ap (λ (n : ℕ). (n - 1) % JOURNAL_RECORDS) ready.next ∙ ap (λ (n : ℕ). n % JOURNAL_RECORDS) (omega arith)
+next_at v j p ready = ap (λ (n : ℕ). (n - 1) % JOURNAL_RECORDS) ready.agrees.next ∙ ap (λ (n : ℕ). n % JOURNAL_RECORDS) (omega arith)
 
 -- the fields of the next play's record, at every moment
 filling_journal : (v : View) (j : Journal) (p : Contents) (play : PlayBody) (area : List ℕ) → IsFree j play → IsReady v j p → Torn (RECORD_LEN * next_record j + 4) 60 (journal_of v.bytes) area → HoldsPlays p.epoch j.oldest p.plays area
 filling_journal v j p play area free ready torn =
-    filled p.epoch j.oldest p.plays (journal_of v.bytes) area (free_next v j p play free ready) (subst (λ (k : ℕ). Torn (RECORD_LEN * k + 4) 60 (journal_of v.bytes) area) (next_at v j p ready) torn) ready.held
+    filled p.epoch j.oldest p.plays (journal_of v.bytes) area (free_next v j p play free ready) (subst (λ (k : ℕ). Torn (RECORD_LEN * k + 4) 60 (journal_of v.bytes) area) (next_at v j p ready) torn) ready.agrees.held
 
 pub filling_moments : (v w : View) (j : Journal) (play : PlayBody) (place n : ℕ) → IsFree j play → n ≡ 60 → place ≡ JOURNAL + RECORD_LEN * next_record j → Within (place + 4) n v w → (p : Contents) → IsReady v j p → LeavesOnly (StandsFor p) v w
 filling_moments v w j play place n free long at within p ready =
     in_area v w p (StandsFor p) JOURNAL JOURNAL_LEN (RECORD_LEN * next_record j + 4) 60 (fields_in (next_of j - 1)) ready.settled ready.one (fields_here v w place n (next_record j) long at within) (λ c d stands wide torn.
-    stands_with p p.plays c d wide stands.lawful (j.oldest, omega (arith, j.known, ready.first), filling_journal v j p play (journal_of d) free ready torn) stands)
+    stands_with p p.plays c d wide stands.lawful (j.oldest, omega (arith, j.known, ready.agrees.first), filling_journal v j p play (journal_of d) free ready torn) stands)
 
 pub filling_ready : (v w : View) (j : Journal) (play : PlayBody) (place : ℕ) (bs : List ℕ) → IsFree j play → length bs ≡ 60 → place ≡ JOURNAL + RECORD_LEN * next_record j → Within (place + 4) (length bs) v w → (v.told → w.bytes ≡ put v.bytes (place + 4) bs) → (v.told → Only (put v.bytes (place + 4) bs) w) → (v.told → w.told) → (p : Contents) → IsReady v j p → IsReady w j p
 filling_ready v w j play place bs free long at within written durable tells p ready =
@@ -123,11 +125,13 @@ filling_ready v w j play place bs free long at within written durable tells p re
     record {
       settled = settled_leaves v w p told (filling_moments v w j play place (length bs) free long at within p ready) tells;
       one = one_written w (put v.bytes (place + 4) bs) JOURNAL JOURNAL_LEN (written told) (durable told);
-      held = filling_journal v j p play (journal_of w.bytes) free ready (area_written v w JOURNAL JOURNAL_LEN (RECORD_LEN * next_record j + 4) 60 told (fields_in (next_of j - 1)) (fields_here v w place (length bs) (next_record j) long at within));
-      first = ready.first;
-      next = ready.next;
-      plays = ready.plays;
-      epoch = ready.epoch;
+      agrees = record {
+        held = filling_journal v j p play (journal_of w.bytes) free ready (area_written v w JOURNAL JOURNAL_LEN (RECORD_LEN * next_record j + 4) 60 told (fields_in (next_of j - 1)) (fields_here v w place (length bs) (next_record j) long at within));
+        first = ready.agrees.first;
+        next = ready.agrees.next;
+        plays = ready.agrees.plays;
+        epoch = ready.agrees.epoch;
+      };
     }
 
 -- the record then has these fields
@@ -143,21 +147,21 @@ opening_journal : (v : View) (j : Journal) (p : Contents) (play : PlayBody) (are
 opening_journal v j p play area free ready has torn =
     let at = next_at v j p ready in
     let here = subst (λ (k : ℕ). Torn (RECORD_LEN * k) 1 (journal_of v.bytes) area) at torn in
-    let has_here : body (journal_of v.bytes) (length p.plays % JOURNAL_RECORDS) ≡ fields p.epoch (length p.plays + 1) play = ap (λ (k : ℕ). body (journal_of v.bytes) k) (sym at) ∙ has ∙ ap (λ (e : ℕ). fields e (next_of j) play) ready.epoch ∙ ap (λ (n : ℕ). fields p.epoch n play) ready.next in
+    let has_here : body (journal_of v.bytes) (length p.plays % JOURNAL_RECORDS) ≡ fields p.epoch (length p.plays + 1) play = ap (λ (k : ℕ). body (journal_of v.bytes) k) (sym at) ∙ has ∙ ap (λ (e : ℕ). fields e (next_of j) play) ready.agrees.epoch ∙ ap (λ (n : ℕ). fields p.epoch n play) ready.agrees.next in
     elim (cases_eq (gate area (next_record j)) 1) [
-      | inl stands ↦ inr (stands, opened p.epoch j.oldest p.plays play (journal_of v.bytes) area (free_next v j p play free ready) here has_here (ap (λ (k : ℕ). gate area k) (sym at) ∙ stands) ready.held)
-      | inr shut ↦ inl (shut, still_closed p.epoch j.oldest p.plays (journal_of v.bytes) area (free_next v j p play free ready) here (λ now. shut (ap (λ (k : ℕ). gate area k) at ∙ now)) ready.held)
+      | inl stands ↦ inr (stands, opened p.epoch j.oldest p.plays play (journal_of v.bytes) area (free_next v j p play free ready) here has_here (ap (λ (k : ℕ). gate area k) (sym at) ∙ stands) ready.agrees.held)
+      | inr shut ↦ inl (shut, still_closed p.epoch j.oldest p.plays (journal_of v.bytes) area (free_next v j p play free ready) here (λ now. shut (ap (λ (k : ℕ). gate area k) at ∙ now)) ready.agrees.held)
     ]
 
 lawful_next : (v : View) (j : Journal) (p : Contents) (play : PlayBody) → IsFree j play → IsReady v j p → IsLawful p → IsLawful (played p play)
-lawful_next v j p play free ready lawful = lawful_played p play (omega (arith, free.unspent, ready.next)) free.is lawful
+lawful_next v j p play free ready lawful = lawful_played p play (omega (arith, free.unspent, ready.agrees.next)) free.is lawful
 
 pub opening_moments : (v w : View) (j : Journal) (play : PlayBody) (place : ℕ) → IsFree j play → place ≡ JOURNAL + RECORD_LEN * next_record j → (v.told → body (journal_of v.bytes) (next_record j) ≡ fields j.epoch (next_of j) play) → Within place 1 v w → (p : Contents) → IsReady v j p → LeavesOnly (Either p (played p play)) v w
 opening_moments v w j play place free at has within p ready =
     in_area v w p (Either p (played p play)) JOURNAL JOURNAL_LEN (RECORD_LEN * next_record j) 1 (gate_in (next_of j - 1)) ready.settled ready.one (subst (λ (m : ℕ). Within m 1 v w) at within) (λ c d stands wide torn.
     elim (opening_journal v j p play (journal_of d) free ready (has ready.settled.told) torn) [
-      | inl shut ↦ inl (stands_with p p.plays c d wide stands.lawful (j.oldest, omega (arith, j.known, ready.first), shut.1) stands)
-      | inr open_now ↦ inr (stands_with p (p.plays ++ play ∷ []) c d wide (lawful_next v j p play free ready stands.lawful) (j.oldest, omega (arith, j.known, ready.first), open_now.1) stands)
+      | inl shut ↦ inl (stands_with p p.plays c d wide stands.lawful (j.oldest, omega (arith, j.known, ready.agrees.first), shut.1) stands)
+      | inr open_now ↦ inr (stands_with p (p.plays ++ play ∷ []) c d wide (lawful_next v j p play free ready stands.lawful) (j.oldest, omega (arith, j.known, ready.agrees.first), open_now.1) stands)
     ])
 
 -- the play is recorded
@@ -180,13 +184,15 @@ opening_ready v w j new play place free oldest first epoch plays at size has wit
     let holds = opened_plays v w j p play place free at size has within written ready in
     let one : Only w.bytes w = subst (λ (b : List ℕ). Only b w) (sym (written told)) (durable told) in
     record {
-      settled = settled_by w w.bytes (played p play) (tells told) one (stands_with p (p.plays ++ play ∷ []) v.bytes w.bytes (wide_bytes v w (next_of j - 1) place at told within) (lawful_next v j p play free ready stands.lawful) (j.oldest, omega (arith, j.known, ready.first), holds) stands);
+      settled = settled_by w w.bytes (played p play) (tells told) one (stands_with p (p.plays ++ play ∷ []) v.bytes w.bytes (wide_bytes v w (next_of j - 1) place at told within) (lawful_next v j p play free ready stands.lawful) (j.oldest, omega (arith, j.known, ready.agrees.first), holds) stands);
       one = one_written w (put v.bytes place (1 ∷ [])) JOURNAL JOURNAL_LEN (written told) (durable told);
-      held = subst (λ (n : ℕ). HoldsPlays p.epoch n (p.plays ++ play ∷ []) (journal_of w.bytes)) (sym oldest) holds;
-      first = first ∙ ready.first;
-      next = omega (arith, first, ready.next, ap length plays, length_push (plays_of j) play, length_push p.plays play);
-      plays = plays ∙ ap (λ (l : List PlayBody). l ++ play ∷ []) ready.plays ∙ sym (drop-append-le (p.floor - 1) p.plays (play ∷ []) (omega (arith, ready.first, ready.next)));
-      epoch = epoch ∙ ready.epoch;
+      agrees = record {
+        held = subst (λ (n : ℕ). HoldsPlays p.epoch n (p.plays ++ play ∷ []) (journal_of w.bytes)) (sym oldest) holds;
+        first = first ∙ ready.agrees.first;
+        next = omega (arith, first, ready.agrees.next, ap length plays, length_push (plays_of j) play, length_push p.plays play);
+        plays = plays ∙ ap (λ (l : List PlayBody). l ++ play ∷ []) ready.agrees.plays ∙ sym (drop-append-le (p.floor - 1) p.plays (play ∷ []) (omega (arith, ready.agrees.first, ready.agrees.next)));
+        epoch = epoch ∙ ready.agrees.epoch;
+      };
     }
 
 -- the first of the two writes of a play's record, with its sync

@@ -182,6 +182,7 @@ stands_from r c from low holds stands =
       slots = stands.slots;
       journal = (from, omega arith, holds);
       files = stands.files;
+      seals = stands.seals;
     }
 
 -- The journal that was opened is ready, with contents whose floor is its first number
@@ -194,11 +195,13 @@ opened_ready w j r bytes told is only stands epoch oldest holds =
       record {
         settled = settled_by w bytes (record r { floor = first_of j }) told only (stands_from r bytes (first_of j) holds.starts held stands);
         one = one_stable JOURNAL JOURNAL_LEN w (subst (λ (b : List ℕ). Only b w) (sym is) only);
-        held = subst (λ (n : ℕ). HoldsPlays r.epoch n r.plays (journal_of w.bytes)) (sym oldest) (subst (λ (b : List ℕ). HoldsPlays r.epoch (first_of j) r.plays (journal_of b)) (sym is) held);
-        first = refl;
-        next = same.1;
-        plays = same_plays r.epoch rec.0 (first_of j) r.plays (plays_of j) (journal_of bytes) rec.2 holds;
-        epoch = epoch;
+        agrees = record {
+          held = subst (λ (n : ℕ). HoldsPlays r.epoch n r.plays (journal_of w.bytes)) (sym oldest) (subst (λ (b : List ℕ). HoldsPlays r.epoch (first_of j) r.plays (journal_of b)) (sym is) held);
+          first = refl;
+          next = same.1;
+          plays = same_plays r.epoch rec.0 (first_of j) r.plays (plays_of j) (journal_of bytes) rec.2 holds;
+          epoch = epoch;
+        };
       },
     )
 

@@ -5,7 +5,7 @@ use Rattle.sg_base.specs.declared.play.PlayBody.{PlayBody}
 use Rattle.sg_disk.specs.View.{View}
 use Rattle.sg_disk.specs.Runs.{LeavesOnly}
 use Rattle.sg_disk.specs.Contents.{Contents, played}
-use Rattle.sg_disk.specs.StandsFor.{StandsFor, Either}
+use Rattle.sg_disk.specs.StandsFor.{StandsFor, Either, Two, Between}
 use Rattle.sg_disk.proofs.Moments.{started, joined, weaker}
 use Rattle.sg_journal.specs.declared.journal.Journal.{Journal}
 use Rattle.sg_journal.specs.Ready.{IsReady}
@@ -53,3 +53,7 @@ come_more p plays i play old mid new j next lt is come append recorded = record 
 
 pub come_all : (p : Contents) (plays : List PlayBody) (old new : View) (j : Journal) → HasCome p plays (length plays) old new j → IsReady new j (played_all p plays)
 come_all p plays old new j come = subst (λ (xs : List PlayBody). IsReady new j (played_all p xs)) (take_all (length plays) plays (omega arith)) come.ready
+
+-- the two that a disk is between when an append failed
+pub between_more : (p : Contents) (plays : List PlayBody) (i : ℕ) (play : PlayBody) (v : View) → i < length plays → play ≡ get_or plays i play → Between v (Two (played_all p (take i plays)) (played (played_all p (take i plays)) play)) → Between v (Two (played_all p (take i plays)) (played_all p (take (i + 1) plays)))
+between_more p plays i play v lt is between = subst (λ (q : Contents). Between v (Two (played_all p (take i plays)) q)) (play_more p plays i play lt is) between

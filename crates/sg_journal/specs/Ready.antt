@@ -26,13 +26,17 @@ epoch_of j = j.epoch
 abbrev pub oldest_of : Journal → ℕ
 oldest_of j = j.oldest
 
--- The journal is ready to record on a disk with these contents: each image of the disk stands for them, every image has the
--- same journal, and the journal in memory knows its open records, its floor, and the plays from the floor on
-pub record IsReady (v : View) (j : Journal) (p : Contents) : Type 0 where
-  pub settled : Settled v p
-  pub one : HasOneJournal v
-  pub held : HoldsPlays p.epoch (oldest_of j) p.plays (journal_of v.bytes)
+-- the journal in memory knows the open records of an area, its floor, and the plays from the floor on
+pub record Agrees (j : Journal) (p : Contents) (area : List ℕ) : Type 0 where
+  pub held : HoldsPlays p.epoch (oldest_of j) p.plays area
   pub first : first_of j ≡ p.floor
   pub next : next_of j ≡ length p.plays + 1
   pub plays : plays_of j ≡ drop (p.floor - 1) p.plays
   pub epoch : epoch_of j ≡ p.epoch
+
+-- The journal is ready to record on a disk with these contents: each image of the disk stands for them, every image has the
+-- same journal, and the journal in memory agrees with it
+pub record IsReady (v : View) (j : Journal) (p : Contents) : Type 0 where
+  pub settled : Settled v p
+  pub one : HasOneJournal v
+  pub agrees : Agrees j p (journal_of v.bytes)

@@ -36,11 +36,12 @@ pub struct Journal {
 }
 
 impl Journal {
-    ghost use Rattle.std.specs.Prelude.{◌≡◌, ◌+◌, ◌-◌, ◌*◌, ◌%◌, ◌<◌, ◌≤◌, ◌^◌, ℕ, [], ◌∷◌, ◌++◌, length, take, drop, min, IfOk, IfErr, OnOk, OnErr, IsErrOf};
+    ghost use Rattle.std.specs.Prelude.{◌≡◌, ◌⊎◌, ◌+◌, ◌-◌, ◌*◌, ◌%◌, ◌<◌, ◌≤◌, ◌^◌, ℕ, List, [], ◌∷◌, ◌++◌, length, take, drop, min, IfOk, IfErr, OnOk, OnErr, IsErrOf};
     ghost use Rattle.sg_disk.specs.Contents.{Contents, played};
-    ghost use Rattle.sg_disk.specs.StandsFor.{StandsFor, Either, journal_of};
-    ghost use Rattle.sg_disk.specs.Runs.{LeavesOnly, Ran, Broke, Within};
-    ghost use Rattle.sg_journal.specs.Ready.{epoch_of, first_of, next_of, oldest_of, plays_of, IsReady};
+    ghost use Rattle.sg_disk.specs.View.{Only};
+    ghost use Rattle.sg_disk.specs.StandsFor.{StandsFor, Either, Two, Between, journal_of};
+    ghost use Rattle.sg_disk.specs.Runs.{LeavesOnly, Ran, Broke, Quiet, Within, Keeps};
+    ghost use Rattle.sg_journal.specs.Ready.{epoch_of, first_of, next_of, oldest_of, plays_of, Agrees, IsReady};
     ghost use Rattle.sg_journal.specs.Entries.{AreOwn, IsRecovered, IsGapAt, EndedBy};
     ghost use Rattle.sg_journal.specs.Records.{FirstDamage, Holds};
     ghost use Rattle.sg_journal.specs.BatchPlays.{batch_first, batch_plays};
@@ -75,6 +76,9 @@ impl Journal {
         // What it leaves of the disk.
         ensures ended { IfErr result (λ fault. EndedBy fault (D.view disk.old) (D.view disk.new)) }
         ensures ran { OnOk result (Ran OPEN_CALLS (D.view disk.old) (D.view disk.new)) }
+        ensures quiet { OnOk result (Quiet OPEN_CALLS (D.view disk.old) (D.view disk.new)) }
+        ensures stable { OnOk result ((D.view disk.old).told
+            → Only (D.view disk.new).bytes (D.view disk.new)) }
         ensures bytes { (D.view disk.old).told → (D.view disk.new).bytes ≡ (D.view disk.old).bytes }
         ensures size { (D.view disk.new).size ≡ (D.view disk.old).size }
     {
@@ -106,6 +110,8 @@ impl Journal {
         ensures plays { plays_of self.new ≡ drop (next - first_of self.old) (plays_of self.old) }
         ensures oldest { oldest_of self.new ≡ oldest_of self.old }
         ensures epoch { epoch_of self.new ≡ epoch_of self.old }
+        ensures agrees { (p : Contents) (area : List ℕ) → Agrees self.old p area
+            → Agrees self.new (record p { floor = next }) area }
     {
         // at most one turn for each record
         for _ in self.first..next {
@@ -128,8 +134,8 @@ impl Journal {
         }
     }
 
-    /// Records a play on the disk that was opened, and answers its number. At Ok every crash leaves it. It makes four calls of the disk, or six where
-    /// the record that it takes still holds an acknowledged play, and takes no memory.
+    /// Records a play on the disk that was opened, and answers its number. At `Ok` every crash leaves it. It makes four calls
+    /// of the disk, or six where the record that it takes still holds an acknowledged play, and takes no memory.
     ///
     /// It is refused with `Full` where 65,536 plays aren't acknowledged, and with `Spent` where the numbers of the epoch are
     /// used up; then nothing is changed. `Disk` comes only where the disk's count of faults rose. The play is then recorded
@@ -163,10 +169,17 @@ impl Journal {
             → (self.new ≡ self.old) × (disk.new ≡ disk.old) }
         ensures broke { IsErrOf result AppendFault.Disk
             → Broke (D.view disk.old) (D.view disk.new) }
+        ensures between { IsErrOf result AppendFault.Disk
+            → (p : Contents) → IsReady (D.view disk.old) self.old p
+            → Between (D.view disk.new) (Two p (played p play.now)) }
 
         // What it leaves of the disk.
         ensures within { Within JOURNAL JOURNAL_LEN (D.view disk.old) (D.view disk.new) }
+        ensures keeps { (place n : ℕ) → (place + n ≤ JOURNAL) ⊎ (JOURNAL + JOURNAL_LEN ≤ place)
+            → Keeps place n (D.view disk.old) (D.view disk.new) }
         ensures size { (D.view disk.new).size ≡ (D.view disk.old).size }
+        ensures stable { OnOk result ((D.view disk.old).told
+            → Only (D.view disk.new).bytes (D.view disk.new)) }
         ensures ran { OnOk result (Ran APPEND_CALLS (D.view disk.old) (D.view disk.new)) }
     {
         if self.next() - self.first == JOURNAL_RECORDS as u32 {
@@ -268,6 +281,8 @@ impl Journal {
         ensures within { Within JOURNAL JOURNAL_LEN (D.view disk.old) (D.view disk.new) }
         ensures size { (D.view disk.new).size ≡ (D.view disk.old).size }
         ensures broke { OnErr result (Broke (D.view disk.old) (D.view disk.new)) }
+        ensures stable { OnOk result ((D.view disk.old).told
+            → Only (D.view disk.new).bytes (D.view disk.new)) }
     {
         let gate = self.place();
         write_synced(

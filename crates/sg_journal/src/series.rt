@@ -1,7 +1,8 @@
 // Several plays, one behind another.
-ghost use Rattle.std.specs.Prelude.{◌≡◌, ℕ, ◌+◌, ◌*◌, ◌<◌, ◌≤◌, ◌++◌, length, slice_get, Some, OnOk, IsErrOf};
+ghost use Rattle.std.specs.Prelude.{◌≡◌, ℕ, ◌+◌, ◌*◌, ◌<◌, ◌≤◌, ◌++◌, length, take, slice_get, Some, OnOk, IsErrOf};
 ghost use Rattle.sg_base.specs.declared.play.PlayBody.{PlayBody};
 ghost use Rattle.sg_disk.specs.Contents.{Contents};
+ghost use Rattle.sg_disk.specs.StandsFor.{Two, Between};
 ghost use Rattle.sg_disk.specs.Runs.{LeavesOnly, Ran, Broke, Within};
 ghost use Rattle.sg_journal.specs.Ready.{IsReady, first_of, plays_of};
 ghost use Rattle.sg_journal.specs.Series.{played_all, StandsForSome};
@@ -40,6 +41,11 @@ pub fn append_all<D: Disk>(
     // What is so in both cases, and why the call is refused.
     ensures first { first_of journal.new ≡ first_of journal.old }
     ensures broke { IsErrOf result AppendFault.Disk → Broke (D.view disk.old) (D.view disk.new) }
+    ensures between { IsErrOf result AppendFault.Disk
+        → (p : Contents) → IsReady (D.view disk.old) journal.old p
+        → (i : ℕ) × (i < length plays.now)
+        × Between (D.view disk.new)
+        (Two (played_all p (take i plays.now)) (played_all p (take (i + 1) plays.now))) }
 {
     for play in plays {
         journal.append(disk, play)?;

@@ -1,6 +1,7 @@
 -- Where the bytes of files stand in the data area, and the gaps between them.
-use Rattle.std.specs.Prelude.{◌≡◌, ℕ, ◌+◌, ◌^◌, ◌<◌, ◌≤◌, List, [], ◌∷◌, All, AllPairs, Bool, ◌&&◌, ◌==◌, nat_eq}
+use Rattle.std.specs.Prelude.{◌≡◌, ℕ, ◌+◌, ◌^◌, ◌<◌, ◌≤◌, List, [], ◌∷◌, All, AllPairs, Bool, false, ◌&&◌, ◌==◌, nat_eq}
 use Rattle.std.specs.Cmp.Lexicographic.{pointwise}
+use Rattle.std.specs.List.{list_any}
 use Rattle.sg_base.specs.declared.file.Listed.{Listed}
 use Rattle.sg_disk.specs.Contents.{Segment, StoredFile, IsClear, IsInside}
 use Rattle.sg_disk.specs.StandsFor.{place_of}
@@ -21,7 +22,7 @@ end_of p = p.place + p.file.length
 
 -- a file of the contents, without its bytes
 abbrev pub placed_of : StoredFile → Placed
-placed_of f = record { file = f.listed; place = place_of f.segments }
+placed_of f = record { file = f.listed; place = place_of f.stand }
 
 -- a placed file lies in a data area of this length, and its own length is within the limit
 pub record IsPlaced (room : ℕ) (p : Placed) : Type 0 where
@@ -60,3 +61,15 @@ NoneEndsBetween files place q = All (λ p. end_of p ≤ q → end_of p ≤ place
 -- two files have the same id, length and MD5
 abbrev pub same_file : Listed → Listed → Bool
 same_file a b = a.media.0 == b.media.0 && (a.length == b.length && pointwise nat_eq a.md5 b.md5)
+
+-- a file is one of the listed ones
+abbrev pub is_listed : List Listed → Listed → Bool
+is_listed files file = list_any (λ f. same_file f file) files
+
+-- by strictly ascending id
+abbrev pub AreAscending : List Placed → Type 0
+AreAscending files = AllPairs (λ p q. p.file.media.0 < q.file.media.0) files
+
+-- no two of them have the same id, length and MD5
+abbrev pub AreDistinct : List Placed → Type 0
+AreDistinct files = AllPairs (λ p q. same_file p.file q.file ≡ false) files

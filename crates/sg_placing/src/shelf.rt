@@ -1,7 +1,6 @@
 // Room for placed files, and how one of them is found.
 ghost use Rattle.std.specs.Prelude.{◌≡◌, ◌+◌, ◌<◌, ◌≤◌, ◌==◌, [], ◌∷◌, ◌++◌, length, find, filter, option_copied, IfOk, vec_capacity};
-ghost use Rattle.std.specs.List.{list_any};
-ghost use Rattle.sg_placing.specs.Placing.{same_file};
+ghost use Rattle.sg_placing.specs.Placing.{same_file, is_listed};
 
 use crate::placed::Placed;
 use sg_base::limits::MANIFEST_FILES;
@@ -60,7 +59,7 @@ impl Shelf {
 
     /// Takes out the files that aren't among these. It goes over these once for each file in it, at most 512 by 512.
     pub fn keep(&mut self, files: &[Listed])
-        ensures { self.new ≡ filter (λ p. list_any (λ f. same_file f p.file) files.now) self.old }
+        ensures { self.new ≡ filter (λ p. is_listed files.now p.file) self.old }
     {
         self.files.retain(|placed| is_listed(files, &placed.file));
     }
@@ -75,7 +74,7 @@ pub fn is_same(one: &Listed, other: &Listed) -> bool
 
 /// Whether a file is among these.
 pub fn is_listed(files: &[Listed], file: &Listed) -> bool
-    ensures { result ≡ list_any (λ f. same_file f file.now) files.now }
+    ensures { result ≡ is_listed files.now file.now }
 {
     files.iter().any(|listed| is_same(listed, file))
 }

@@ -1,14 +1,16 @@
 -- What a slot says.
-use Rattle.std.proofs.Common.{◌≡◌, inl, inr, ℕ, zero, suc, ◌+◌, ◌*◌, ◌<◌, ◌≤◌, Bool, true, false, List, [], ◌∷◌, ◌++◌, length, get_or, drop, None, Some, if◌then◌else◌, All, refl, sym, ◌∙◌, ap, subst, arith, add-one}
+use Rattle.std.proofs.Common.{◌≡◌, inl, inr, ℕ, zero, suc, ◌+◌, ◌*◌, ◌<◌, ◌≤◌, nat_lt, nat_le, ◌&&◌, Bool, true, false, List, [], ◌∷◌, ◌++◌, length, get_or, drop, None, Some, if◌then◌else◌, All, refl, sym, ◌∙◌, ap, subst, arith, add-one}
 use Rattle.std.specs.Int.{w32, w64, from_le_bytes}
-use Rattle.std.proofs.lemmas.Bool.{eq-eqb, ne_eqb, cases_lt}
+use Rattle.std.proofs.lemmas.Bool.{eq-eqb, ne_eqb, cases_lt, ltb-true, and_parts}
 use Rattle.std.proofs.lemmas.List.{length_push, get_or_append_left, get_or_push, drop_more, at_drop_all}
 use Rattle.std.proofs.lemmas.List.Elements.{All-nil, All-push}
-use Rattle.sg_placing.specs.Placing.{IsPlaced}
+use Rattle.std.proofs.lemmas.List.Quantifiers.{all_pairs_push}
+use Rattle.sg_placing.specs.Placing.{end_of, IsPlaced, AreAscending}
 use Rattle.sg_placing.specs.declared.placed.Placed.{Placed}
 use Rattle.sg_slots.specs.Damage.{is_entry, entries_damage}
 use Rattle.sg_disk.specs.View.{range}
-use Rattle.sg_disk.specs.declared.places.TheConstants.{ENTRY_LEN, FIELDS, SLOT_ONE}
+use Rattle.sg_base.specs.declared.limits.TheConstants.{MAX_FILE_LEN}
+use Rattle.sg_disk.specs.declared.places.TheConstants.{DATA, ENTRY_LEN, FIELDS, SLOT_ONE}
 use Rattle.sg_disk.proofs.Ranges.{range-range, byte_in}
 use Rattle.sg_slots.specs.Bytes.{u32_at, u64_at, placed_at, entries_of}
 use Rattle.sg_slots.specs.Slots.{slot_place, head_at}
@@ -70,6 +72,23 @@ pub record Reads (room place count : ℕ) (table : List ℕ) (i before : ℕ) (f
   pub files_are : files ≡ entries_of table i
   pub damage : entries_damage room place 0 (entries_of table count) ≡ entries_damage room (place + ENTRY_LEN * i) before (drop i (entries_of table count))
   pub placed : All (IsPlaced room) files
+  pub low : All (λ p. p.file.media.0 ≤ before) files
+  pub ascending : AreAscending files
+
+-- no file is by ascending id
+pub ascending_none : (files : List Placed) → files ≡ [] → AreAscending files
+ascending_none files none i j d lt below = absurd (omega (arith, below, ap length none))
+
+-- and one more whose id is above those before it
+ascending_more : (files : List Placed) (before : ℕ) (p : Placed) → All (λ q. q.file.media.0 ≤ before) files → before < p.file.media.0 → AreAscending files → AreAscending (files ++ p ∷ [])
+ascending_more files before p low above up = all_pairs_push (λ q r. q.file.media.0 < r.file.media.0) files p up (λ k d lt. omega (arith, low k d lt, above))
+
+low_more : (files : List Placed) (before : ℕ) (p : Placed) → All (λ q. q.file.media.0 ≤ before) files → before < p.file.media.0 → All (λ q. q.file.media.0 ≤ p.file.media.0) (files ++ p ∷ [])
+low_more files before p low above = All-push (λ q. q.file.media.0 ≤ p.file.media.0) files p (λ k d lt. omega (arith, low k d lt, above)) (omega arith)
+
+-- a sound entry has an id above the one before
+entry_above : (room before : ℕ) (p : Placed) → is_entry room before p ≡ true → before < p.file.media.0
+entry_above room before p sound = ltb-true before p.file.media.0 (and_parts (nat_lt before p.file.media.0) (nat_le 1 p.file.length && (nat_le p.file.length MAX_FILE_LEN && (nat_le DATA p.place && nat_le (end_of p) (DATA + room)))) sound).0
 
 pub reads_none : (room place count : ℕ) (table : List ℕ) (files : List Placed) → files ≡ [] → Reads room place count table 0 0 files
 reads_none room place count table files is =
@@ -78,6 +97,8 @@ reads_none room place count table files is =
       files_are = is;
       damage = ap (λ (p : ℕ). entries_damage room p 0 (entries_of table count)) at;
       placed = subst (All (IsPlaced room)) (sym is) (All-nil (IsPlaced room));
+      low = subst (All (λ (p : Placed). p.file.media.0 ≤ 0)) (sym is) (All-nil (λ (p : Placed). p.file.media.0 ≤ 0));
+      ascending = ascending_none files is;
     }
 
 -- what the check of entry i says of the whole
@@ -96,6 +117,8 @@ reads_more room place count table i before files new p lt is sound placed pushed
       files_are = pushed ∙ ap (λ (l : List Placed). l ++ p ∷ []) so_far.files_are ∙ ap (λ (q : Placed). entries_of table i ++ q ∷ []) is ∙ ap (entries_of table) (sym one);
       damage = entries_step room place count table i before files p lt is so_far ∙ ap (λ (b : Bool). if b then entries_damage room (place + ENTRY_LEN * i + ENTRY_LEN) p.file.media.0 (drop (i + 1) (entries_of table count)) else Some (record { place = place + ENTRY_LEN * i; found = p.file.media.0 })) sound ∙ ap (λ (k : ℕ). entries_damage room k p.file.media.0 (drop (i + 1) (entries_of table count))) at;
       placed = subst (All (IsPlaced room)) (sym pushed) (All-push (IsPlaced room) files p so_far.placed placed);
+      low = subst (All (λ (q : Placed). q.file.media.0 ≤ p.file.media.0)) (sym pushed) (low_more files before p so_far.low (entry_above room before p sound));
+      ascending = subst AreAscending (sym pushed) (ascending_more files before p so_far.low (entry_above room before p sound) so_far.ascending);
     }
 
 pub reads_refused : (room place count : ℕ) (table : List ℕ) (i before : ℕ) (files : List Placed) (p : Placed) → i < count → p ≡ placed_at table (ENTRY_LEN * i) → is_entry room before p ≡ false → Reads room place count table i before files → entries_damage room place 0 (entries_of table count) ≡ Some (record { place = place + ENTRY_LEN * i; found = p.file.media.0 })

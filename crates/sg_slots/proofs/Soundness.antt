@@ -4,11 +4,11 @@ use Rattle.std.specs.Int.{w64, from_le_bytes}
 use Rattle.std.proofs.lemmas.Bool.{cases_eq, cases_Bool, and_from, lt-ltb, le-leb, eq-eqb, ne_eqb}
 use Rattle.std.proofs.lemmas.List.{get_or_append_left, get_or_at}
 use Rattle.std.proofs.lemmas.List.Sums.{list_all-from_AllPass}
-use Rattle.sg_disk.specs.Contents.{Segment, StoredFile, Contents, IsClear, IsInside, IsSnapshot, IsRoom}
+use Rattle.sg_disk.specs.Contents.{Segment, StoredFile, taken, Contents, IsClear, IsInside, IsSnapshot, IsRoom}
 use Rattle.sg_disk.specs.StandsFor.{HasFields, IsOpen, IsOther, AreSlots, StandsFor}
 use Rattle.sg_base.specs.declared.limits.TheConstants.{MANIFEST_FILES, MANIFEST_TEXT, MAX_FILE_LEN, ROOM_UNIT, MAX_ROOM}
 use Rattle.sg_disk.specs.declared.places.TheConstants.{DATA, ENTRY_LEN, SLOT_ONE, TABLE}
-use Rattle.sg_disk.proofs.Extents.{extent_of, segments-extent}
+use Rattle.sg_disk.proofs.Extents.{extent_of, taken_extent}
 use Rattle.sg_placing.specs.Placing.{segment_of, placed_of, end_of, IsPlaced, AreApart}
 use Rattle.sg_placing.specs.declared.placed.Placed.{Placed}
 use Rattle.sg_slots.specs.Bytes.{u32_at, u64_at}
@@ -116,8 +116,8 @@ shut_sound room slot c shut =
 placed_in_room : (room number : ℕ) (text : List ℕ) (files : List StoredFile) → IsSnapshot room number text files → All (λ f. IsPlaced room (placed_of f)) files
 placed_in_room room number text files snapshot k d lt =
     let f : StoredFile = get_or files k d in
-    let extent : f.segments ≡ extent_of f ∷ [] = segments-extent f (snapshot.extents k d lt) in
-    let inside : IsInside room (get_or f.segments 0 (extent_of f)) = snapshot.inside k d lt 0 (extent_of f) (omega (arith, ap length extent)) in
+    let extent : taken f ≡ extent_of f ∷ [] = taken_extent f (snapshot.extents k d lt) in
+    let inside : IsInside room (get_or (taken f) 0 (extent_of f)) = snapshot.inside k d lt 0 (extent_of f) (omega (arith, ap length extent)) in
     record {
       inside = subst (λ (l : List Segment). IsInside room (get_or l 0 (extent_of f))) extent inside;
       length = snapshot.listed.lengths k d lt;

@@ -4,12 +4,13 @@ use Rattle.std.specs.List.{flat_map}
 use Rattle.std.proofs.lemmas.Bool.{cases_eq, lt-ltb, le-ltb, true≢false}
 use Rattle.std.proofs.lemmas.List.{length-map, get_or-map}
 use Rattle.sg_disk.specs.View.{range}
-use Rattle.sg_disk.specs.Contents.{Segment, StoredFile, IsClear, IsInside, IsExtent, IsSnapshot, segments_of}
+use Rattle.sg_disk.specs.Contents.{Segment, StoredFile, IsClear, IsInside, IsExtent, IsSnapshot, taken, all_taken}
+use Rattle.sg_disk.specs.Contents.{Extent}
 use Rattle.sg_disk.specs.StandsFor.{le32, place_of, entry, HasFields, IsOpen, IsOther, IsCurrent}
 use Rattle.sg_base.specs.declared.limits.TheConstants.{MANIFEST_FILES, MAX_ROOM}
 use Rattle.sg_disk.specs.declared.places.TheConstants.{ENTRY_LEN, FIELDS, SLOT_LEN, TABLE}
 use Rattle.sg_disk.proofs.Ranges.{range-range, byte_in}
-use Rattle.sg_disk.proofs.Extents.{extent_of, segments-extent, segments_of-extents}
+use Rattle.sg_disk.proofs.Extents.{extent_of, taken_extent, taken-extents}
 use Rattle.sg_placing.specs.Placing.{segment_of, placed_of, AreApart}
 use Rattle.sg_placing.specs.declared.placed.Placed.{Placed}
 use Rattle.sg_slots.specs.Bytes.{u32_at, entries_of}
@@ -50,8 +51,8 @@ files_stand slot c number text files head few fit count has =
 pub files_fit : (room number : ℕ) (text : List ℕ) (files : List StoredFile) → room ≤ MAX_ROOM → IsSnapshot room number text files → All FitsEntry files
 files_fit room number text files small snapshot k d lt =
     let f : StoredFile = get_or files k d in
-    let extent : f.segments ≡ extent_of f ∷ [] = segments-extent f (snapshot.extents k d lt) in
-    let inside : IsInside room (get_or f.segments 0 (extent_of f)) = snapshot.inside k d lt 0 (extent_of f) (omega (arith, ap length extent)) in
+    let extent : taken f ≡ extent_of f ∷ [] = taken_extent f (snapshot.extents k d lt) in
+    let inside : IsInside room (get_or (taken f) 0 (extent_of f)) = snapshot.inside k d lt 0 (extent_of f) (omega (arith, ap length extent)) in
     let here : IsInside room (extent_of f) = subst (λ (l : List Segment). IsInside room (get_or l 0 (extent_of f))) extent inside in
     let ids = snapshot.listed.ids k d lt in
     let lengths = snapshot.listed.lengths k d lt in
@@ -112,25 +113,25 @@ gate_found slot c opened is = elim (cases_eq (get_or c (slot_place slot) 0) 1) [
   )
 ]
 
--- files that stand apart as segments do so as placed files
-pub apart_placed : (files : List StoredFile) → All IsExtent files → AllPairs (λ s t. IsClear t.place t.size s) (segments_of files) → AreApart (map placed_of files)
+-- files that take no byte twice stand apart as placed files
+pub apart_placed : (files : List StoredFile) → All IsExtent files → AllPairs (λ s t. IsClear t.place t.size s) (all_taken files) → AreApart (map placed_of files)
 apart_placed files extents apart i j d lt below =
     let far : j < length files = omega (arith, below, length-map files placed_of) in
     let near : i < length files = omega (arith, lt, far) in
     let f : StoredFile = get_or files i nothing in
     let g : StoredFile = get_or files j nothing in
-    let pairs : AllPairs (λ s t. IsClear t.place t.size s) (map extent_of files) = subst (λ (l : List Segment). AllPairs (λ s t. IsClear t.place t.size s) l) (segments_of-extents files extents) apart in
+    let pairs : AllPairs (λ s t. IsClear t.place t.size s) (map extent_of files) = subst (λ (l : List Segment). AllPairs (λ s t. IsClear t.place t.size s) l) (taken-extents files extents) apart in
     let e : Segment = extent_of nothing in
     let pair = pairs i j e lt (omega (arith, far, length-map files extent_of)) in
     let first : get_or (map extent_of files) i e ≡ extent_of f = get_or-map extent_of files i nothing e near in
     let second : get_or (map extent_of files) j e ≡ extent_of g = get_or-map extent_of files j nothing e far in
-    let clear : IsClear (place_of g.segments) g.listed.length (extent_of f) = subst (λ (s : Segment). IsClear (extent_of g).place (extent_of g).size s) first (subst (λ (t : Segment). IsClear t.place t.size (get_or (map extent_of files) i e)) second pair) in
+    let clear : IsClear (place_of g.stand) g.listed.length (extent_of f) = subst (λ (s : Segment). IsClear (extent_of g).place (extent_of g).size s) first (subst (λ (t : Segment). IsClear t.place t.size (get_or (map extent_of files) i e)) second pair) in
     let one : get_or (map placed_of files) i d ≡ placed_of f = get_or-map placed_of files i nothing d near in
     let two : get_or (map placed_of files) j d ≡ placed_of g = get_or-map placed_of files j nothing d far in
     subst (λ (p : Placed). IsClear (get_or (map placed_of files) j d).place (get_or (map placed_of files) j d).file.length (segment_of p)) (sym one) (subst (λ (q : Placed). IsClear q.place q.file.length (segment_of (placed_of f))) (sym two) clear)
   where
     nothing : StoredFile
-    nothing = record { listed = record { media = record { 0 = 0 }; length = 0; md5 = [] }; segments = []; bytes = [] }
+    nothing = record { listed = record { media = record { 0 = 0 }; length = 0; md5 = [] }; stand = Extent 0; bytes = [] }
 
 -- what stands in the slot that isn't spare
 pub in_opposite : (spare : Slot) (c : List ℕ) (first second : Option Head) → first ≡ head_at Zero c → second ≡ head_at One c → in_slot spare second first ≡ head_at (opposite spare) c

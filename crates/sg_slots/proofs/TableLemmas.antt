@@ -6,6 +6,7 @@ use Rattle.std.proofs.lemmas.Nat.{from_le_bytes-to_le_bytes_4, from_le_bytes-to_
 use Rattle.std.proofs.lemmas.List.{same_lists, length-map, get_or-map, drop-append-le, take-append-le, drop-drop, drop_at, take_at}
 use Rattle.sg_disk.specs.View.{range}
 use Rattle.sg_disk.specs.Contents.{StoredFile}
+use Rattle.sg_disk.specs.Contents.{Extent}
 use Rattle.sg_disk.specs.StandsFor.{le32, le64, place_of, entry}
 use Rattle.sg_placing.specs.Placing.{placed_of}
 use Rattle.sg_slots.specs.Bytes.{u32_at, u64_at, placed_at, entries_of}
@@ -16,7 +17,7 @@ pub record FitsEntry (f : StoredFile) : Type 0 where
   pub media : f.listed.media.0 < 2 ^ 32
   pub long : f.listed.length < 2 ^ 32
   pub digest : length f.listed.md5 ≡ 16
-  pub place : place_of f.segments < 2 ^ 64
+  pub place : place_of f.stand < 2 ^ 64
 
 -- a range of the front of a list
 range_left : (xs ys : List ℕ) (p n : ℕ) → p + n ≤ length xs → range (xs ++ ys) p n ≡ range xs p n
@@ -46,7 +47,7 @@ entry_length f = refl
 
 entry_digest : (f : StoredFile) → length f.listed.md5 ≡ 16 → range (entry f) 8 16 ≡ f.listed.md5
 unfolding entry le32 le64 range
-entry_digest f digest = take_at f.listed.md5 (le64 (place_of f.segments)) 16 digest
+entry_digest f digest = take_at f.listed.md5 (le64 (place_of f.stand)) 16 digest
 
 front_long : (f : StoredFile) → length f.listed.md5 ≡ 16 → length (le32 f.listed.media.0 ++ le32 f.listed.length ++ f.listed.md5) ≡ 24
 unfolding le32
@@ -56,9 +57,9 @@ le64_whole : (n : ℕ) → range (le64 n) 0 8 ≡ le64 n
 unfolding le64 range
 le64_whole n = refl
 
-entry_place : (f : StoredFile) → length f.listed.md5 ≡ 16 → range (entry f) 24 8 ≡ le64 (place_of f.segments)
+entry_place : (f : StoredFile) → length f.listed.md5 ≡ 16 → range (entry f) 24 8 ≡ le64 (place_of f.stand)
 unfolding entry
-entry_place f digest = range_right (le32 f.listed.media.0 ++ le32 f.listed.length ++ f.listed.md5) (le64 (place_of f.segments)) 24 0 8 (front_long f digest) ∙ le64_whole (place_of f.segments)
+entry_place f digest = range_right (le32 f.listed.media.0 ++ le32 f.listed.length ++ f.listed.md5) (le64 (place_of f.stand)) 24 0 8 (front_long f digest) ∙ le64_whole (place_of f.stand)
 
 -- an entry of a table
 entry_in : (files : List StoredFile) (i p n : ℕ) (d : StoredFile) → All FitsEntry files → i < length files → p + n ≤ 32 → range (flat_map entry files) (32 * i + p) n ≡ range (entry (get_or files i d)) p n
@@ -97,7 +98,7 @@ placed_in_table files i d fit lt =
     let media : u32_at table (32 * i) ≡ f.listed.media.0 = ap (λ (k : ℕ). u32_at table k) zeroth ∙ number_32 table (32 * i + 0) f.listed.media.0 fits.media (entry_in files i 0 4 d fit lt (omega arith) ∙ entry_media f) in
     let long : u32_at table (32 * i + 4) ≡ f.listed.length = number_32 table (32 * i + 4) f.listed.length fits.long (entry_in files i 4 4 d fit lt (omega arith) ∙ entry_length f) in
     let digest : range table (32 * i + 8) 16 ≡ f.listed.md5 = entry_in files i 8 16 d fit lt (omega arith) ∙ entry_digest f fits.digest in
-    let place : u64_at table (32 * i + 24) ≡ place_of f.segments = number_64 table (32 * i + 24) (place_of f.segments) fits.place (entry_in files i 24 8 d fit lt (omega arith) ∙ entry_place f fits.digest) in
+    let place : u64_at table (32 * i + 24) ≡ place_of f.stand = number_64 table (32 * i + 24) (place_of f.stand) fits.place (entry_in files i 24 8 d fit lt (omega arith) ∙ entry_place f fits.digest) in
     rw (media, long, digest, place)
 
 -- the files of a table
@@ -109,4 +110,4 @@ entries_back files fit =
     get_or-entries table (length files) k d near ∙ placed_in_table files k nowhere_stored fit near ∙ sym (get_or-map placed_of files k nowhere_stored d near))
   where
     nowhere_stored : StoredFile
-    nowhere_stored = record { listed = record { media = record { 0 = 0 }; length = 0; md5 = [] }; segments = []; bytes = [] }
+    nowhere_stored = record { listed = record { media = record { 0 = 0 }; length = 0; md5 = [] }; stand = Extent 0; bytes = [] }

@@ -1,5 +1,5 @@
 -- The two slots, and what each says.
-use Rattle.std.specs.Prelude.{ℕ, ◌+◌, ◌*◌, ◌==◌, List, [], Option, None, Some, if◌then◌else◌, slice_index, nat_lt}
+use Rattle.std.specs.Prelude.{◌⊎◌, ℕ, ◌+◌, ◌*◌, ◌≤◌, ◌==◌, List, [], Option, None, Some, if◌then◌else◌, slice_index, nat_lt}
 use Rattle.sg_disk.specs.View.{range}
 use Rattle.sg_disk.specs.declared.places.TheConstants.{COUNT, ENTRY_LEN, NUMBER, SLOT_LEN, SLOT_ONE, SLOT_ZERO, TABLE, TEXT_LEN}
 use Rattle.sg_placing.specs.declared.placed.Placed.{Placed}
@@ -15,6 +15,10 @@ slot_place One = SLOT_ONE
 abbrev pub opposite : Slot → Slot
 opposite Zero = One
 opposite One = Zero
+
+-- none of the n bytes at a place belongs to a slot
+abbrev pub IsClearOfSlots : ℕ → ℕ → Type 0
+IsClearOfSlots place n = (place + n ≤ SLOT_ZERO) ⊎ (SLOT_ZERO + 2 * SLOT_LEN ≤ place)
 
 -- the bytes of a slot
 abbrev pub slot_of : Slot → List ℕ → List ℕ

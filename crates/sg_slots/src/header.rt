@@ -1,6 +1,7 @@
 // The header: its bytes, and its reading.
 ghost use Rattle.std.specs.Prelude.{◌≡◌, ◌≢◌, ◌⊎◌, ℕ, ◌+◌, ◌<◌, ◌≤◌, None, Some, length, IfOk, IfErr, OnOk, OnErr, IsErrOf, slice_index};
 ghost use Rattle.sg_disk.specs.View.{Only};
+ghost use Rattle.sg_disk.specs.StandsFor.{disk_len};
 ghost use Rattle.sg_disk.specs.Runs.{LeavesOnly, Ran};
 ghost use Rattle.sg_slots.specs.Bytes.{header_fields, u32_at, u64_at};
 ghost use Rattle.sg_slots.specs.Damage.{mark_damage, format_damage, header_damage, is_room};
@@ -46,7 +47,7 @@ pub fn read_header<D: Disk>(disk: &mut D) -> Result<Format, OpenFault>
     ensures room { IfOk result (λ h. (D.view disk.old).told
         → h.room ≡ u64_at (D.view disk.old).bytes ROOM) }
     ensures few { IfOk result (λ h. h.room ≤ MAX_ROOM) }
-    ensures size { IfOk result (λ h. (D.view disk.new).size ≡ DATA + h.room) }
+    ensures size { IfOk result (λ h. (D.view disk.new).size ≡ disk_len h.room) }
     ensures stable { OnOk result ((D.view disk.old).told
         → Only (D.view disk.old).bytes (D.view disk.new)) }
     ensures bytes { OnOk result ((D.view disk.old).told
@@ -60,6 +61,10 @@ pub fn read_header<D: Disk>(disk: &mut D) -> Result<Format, OpenFault>
     ensures damaged { (place found : ℕ) → IsErrOf result (OpenFault.Damaged place found)
         → (D.view disk.old).told → header_damage (D.view disk.new).size (D.view disk.old).bytes
         ≡ Some (record { place = place; found = found }) }
+    ensures opened { (place found : ℕ) → IsErrOf result (OpenFault.Damaged place found)
+        → (D.view disk.old).told → slice_index (D.view disk.old).bytes 0 ≡ 1 }
+    ensures long { (place found : ℕ) → IsErrOf result (OpenFault.Damaged place found)
+        → DATA ≤ (D.view disk.new).size }
     ensures memory { IsErrOf result OpenFault.Memory → ⊥ }
     ensures ended { IfErr result (λ fault. EndedBy fault (D.view disk.old) (D.view disk.new)) }
     ensures told_size { (D.view disk.old).told → (D.view disk.new).size ≡ (D.view disk.old).size }

@@ -2,7 +2,7 @@
 ghost use Rattle.std.specs.Prelude.{◌≡◌, ℕ, ◌+◌, ◌≤◌, None, Some, IfOk, IfErr, OnOk, OnErr, IsErrOf, All, vec_capacity};
 ghost use Rattle.std.specs.Option.{ForSome};
 ghost use Rattle.sg_disk.specs.Runs.{LeavesOnly, Quiet};
-ghost use Rattle.sg_placing.specs.Placing.{IsPlaced};
+ghost use Rattle.sg_placing.specs.Placing.{IsPlaced, AreAscending};
 ghost use Rattle.sg_slots.specs.Slots.{head_at, files_at, spare_at};
 ghost use Rattle.sg_slots.specs.Damage.{twin_damage, slots_damage};
 ghost use Rattle.sg_slots.specs.Refusals.{EndedBy};
@@ -86,6 +86,8 @@ pub fn read_slots<D: Disk>(
         → one_files.new ≡ files_at Slot.One (D.view disk.old).bytes) }
     ensures zero_placed { OnOk result (All (IsPlaced room) zero_files.new) }
     ensures one_placed { OnOk result (All (IsPlaced room) one_files.new) }
+    ensures zero_ascending { OnOk result (AreAscending zero_files.new) }
+    ensures one_ascending { OnOk result (AreAscending one_files.new) }
     ensures table { TABLE_LEN ≤ vec_capacity table.new }
 
     // Why it is refused, and what that leaves of the disk.

@@ -3,7 +3,7 @@ ghost use Rattle.std.specs.Prelude.{◌≡◌, ℕ, ◌+◌, ◌*◌, ◌<◌, �
 ghost use Rattle.std.specs.Option.{ForSome};
 ghost use Rattle.sg_disk.specs.View.{range};
 ghost use Rattle.sg_disk.specs.Runs.{LeavesOnly, Broke, Quiet};
-ghost use Rattle.sg_placing.specs.Placing.{IsPlaced};
+ghost use Rattle.sg_placing.specs.Placing.{IsPlaced, AreAscending};
 ghost use Rattle.sg_slots.specs.Bytes.{entries_of};
 ghost use Rattle.sg_slots.specs.Slots.{slot_place, head_at, files_of, files_at};
 ghost use Rattle.sg_slots.specs.Damage.{is_entry, fields_damage, entries_damage, slot_damage};
@@ -143,6 +143,7 @@ fn read_entries(
         (entries_of table.now count) ≡ None) }
     ensures files { OnOk result (files.new ≡ entries_of table.now count) }
     ensures placed { OnOk result (All (IsPlaced room) files.new) }
+    ensures ascending { OnOk result (AreAscending files.new) }
     ensures few { OnOk result (length files.new ≤ MANIFEST_FILES) }
 {
     files.clear();
@@ -187,6 +188,7 @@ pub fn read_slot<D: Disk>(
         → files.new ≡ files_at slot (D.view disk.old).bytes) }
     ensures text { IfOk result (λ h. ForSome h (λ x. x.text ≤ MANIFEST_TEXT)) }
     ensures placed { OnOk result (All (IsPlaced room) files.new) }
+    ensures ascending { OnOk result (AreAscending files.new) }
     ensures few { OnOk result (length files.new ≤ MANIFEST_FILES) }
     ensures table { TABLE_LEN ≤ vec_capacity table.new }
 

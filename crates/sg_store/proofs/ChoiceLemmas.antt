@@ -8,7 +8,8 @@ use Rattle.std.proofs.lemmas.List.{append-nil, length-map, get_or-map}
 use Rattle.md5.specs.Md5.{md5}
 use Rattle.sg_base.specs.declared.file.Listed.{Listed}
 use Rattle.sg_disk.specs.View.{range}
-use Rattle.sg_disk.specs.Contents.{Segment, StoredFile, IsClear, IsInside, IsExtent, IsSnapshot}
+use Rattle.sg_disk.specs.Contents.{Segment, StoredFile, IsClear, IsInside, IsExtent, IsSnapshot, taken, parts}
+use Rattle.sg_disk.specs.Contents.{Extent}
 use Rattle.sg_disk.specs.StandsFor.{place_of, entry, IsHeld, AreFiles}
 use Rattle.sg_base.specs.declared.limits.TheConstants.{MANIFEST_FILES, MANIFEST_TEXT, MAX_FILE_LEN}
 use Rattle.sg_disk.specs.declared.places.TheConstants.{DATA}
@@ -65,18 +66,26 @@ member (p ∷ files) f some = elim (cases_Bool (same_file p.file f)) [
 ]
 
 -- the stored file of a member
-pub stored_is : (files : List Placed) (c : List ℕ) (f : Listed) (m : Member files f) → (stored_file files c f).segments ≡ segments_of_placed m.q
-stored_is files c f m = ap (λ (o : Option Placed). unwrap_or (option_map segments_of_placed o) []) m.found
-
 pub chosen_is : (files : List Placed) (f : Listed) (m : Member files f) → chosen files f ≡ m.q
 chosen_is files f m = ap (λ (o : Option Placed). unwrap_or o (record { file = f; place = 0 })) m.found
 
-placed_stored : (files : List Placed) (c : List ℕ) (f : Listed) (m : Member files f) → placed_of (stored_file files c f) ≡ m.q
-placed_stored files c f m = ap (λ (l : List Segment). placed_at_segments f l) (stored_is files c f m) ∙ ap (λ (g : Listed). placed_here g m.q.place) (sym m.same)
-  where
-    placed_at_segments : Listed → List Segment → Placed
-    placed_at_segments g l = record { file = g; place = place_of l }
+-- a file with another's place and the bytes that stand there
+abbrev pub stored_as : List ℕ → Listed → Placed → StoredFile
+stored_as c f q = record { listed = f; stand = Extent q.place; bytes = bytes_in c (segments_of_placed q) }
 
+pub stored_is : (files : List Placed) (c : List ℕ) (f : Listed) (m : Member files f) → stored_file files c f ≡ stored_as c f m.q
+stored_is files c f m = ap (λ (q : Placed). stored_as c f q) (chosen_is files f m)
+
+-- it takes what the member takes, and its bytes stand there
+stored_taken : (files : List Placed) (c : List ℕ) (f : Listed) (m : Member files f) → taken (stored_file files c f) ≡ segments_of_placed m.q
+stored_taken files c f m = ap (λ (s : StoredFile). taken s) (stored_is files c f m) ∙ ap (λ (g : Listed). record { place = m.q.place; size = g.length } ∷ []) (sym m.same)
+
+stored_parts : (files : List Placed) (c : List ℕ) (f : Listed) (m : Member files f) → parts (stored_file files c f) ≡ segments_of_placed m.q
+stored_parts files c f m = ap (λ (s : StoredFile). parts s) (stored_is files c f m) ∙ ap (λ (g : Listed). record { place = m.q.place; size = g.length } ∷ []) (sym m.same)
+
+placed_stored : (files : List Placed) (c : List ℕ) (f : Listed) (m : Member files f) → placed_of (stored_file files c f) ≡ m.q
+placed_stored files c f m = ap (λ (q : Placed). placed_here f q.place) (chosen_is files f m) ∙ ap (λ (g : Listed). placed_here g m.q.place) (sym m.same)
+  where
     placed_here : Listed → ℕ → Placed
     placed_here g n = record { file = g; place = n }
 
@@ -85,6 +94,13 @@ chosen_stored files c [] held = refl
 chosen_stored files c (f ∷ listed) held =
     let m : Member files f = member files f (held zero f (omega arith)) in
     ap (λ (q : Placed). q ∷ map (chosen files) listed) (chosen_is files f m ∙ sym (placed_stored files c f m)) ∙ ap (λ (l : List Placed). placed_of (stored_file files c f) ∷ l) (chosen_stored files c listed (λ k d lt. held (suc k) d (omega (arith, lt))))
+
+-- the chosen files are the listed ones
+pub chosen_files : (files : List Placed) (listed : List Listed) → All (λ f. is_some (placed_as files f) ≡ true) listed → map (λ p. p.file) (map (chosen files) listed) ≡ listed
+chosen_files files [] held = refl
+chosen_files files (f ∷ listed) held =
+    let m : Member files f = member files f (held zero f (omega arith)) in
+    ap (λ (g : Listed). g ∷ map (λ p. p.file) (map (chosen files) listed)) (ap (λ (q : Placed). q.file) (chosen_is files f m) ∙ m.same) ∙ ap (λ (l : List Listed). f ∷ l) (chosen_files files listed (λ k d lt. held (suc k) d (omega (arith, lt))))
 
 -- the entries of a table
 entry_same : (f : StoredFile) → placed_entry (placed_of f) ≡ entry f
@@ -112,7 +128,7 @@ placed_member : (room : ℕ) (files : List Placed) (f : Listed) (m : Member file
 placed_member room files f m placed = subst (IsPlaced room) (m.at m.q) (placed m.k m.q m.lt)
 
 stored_extent : (files : List Placed) (c : List ℕ) (f : Listed) (m : Member files f) → IsExtent (stored_file files c f)
-stored_extent files c f m = (m.q.place, stored_is files c f m ∙ ap (λ (g : Listed). record { place = m.q.place; size = g.length } ∷ []) m.same)
+stored_extent files c f m = ((chosen files f).place, refl)
 
 -- two stored files of different ids are apart
 apart_members : (files : List Placed) (f g : Listed) (m : Member files f) (n : Member files g) → AreApart files → f.media.0 < g.media.0 → IsClear n.q.place n.q.file.length (segment_of m.q)
@@ -151,7 +167,7 @@ stored_snapshot room number text files c listed number_ok text_ok few ascending 
         digests = each_stored files c listed (λ f. length f.listed.md5 ≡ 16) (λ k lt. subst (λ (l : Listed). length l.md5 ≡ 16) (m k lt).same (subst (λ (p : Placed). length p.file.md5 ≡ 16) ((m k lt).at (m k lt).q) (whole (m k lt).k (m k lt).q (m k lt).lt)));
       };
       extents = extents;
-      inside = each_stored files c listed (λ f. All (IsInside room) f.segments) (λ k lt. subst (All (IsInside room)) (sym (stored_is files c (get_or listed k nothing_listed) (m k lt))) (one_inside (m k lt).q (is k lt).inside));
+      inside = each_stored files c listed (λ f. All (IsInside room) (taken f)) (λ k lt. subst (All (IsInside room)) (sym (stored_taken files c (get_or listed k nothing_listed) (m k lt))) (one_inside (m k lt).q (is k lt).inside));
       apart = apart_extents F extents (pairs listed ascending held);
     }
   where
@@ -167,7 +183,7 @@ stored_snapshot room number text files c listed number_ok text_ok few ascending 
         let second : get_or (map (stored_file files c) l) j d ≡ stored_file files c (get_or l j nothing_listed) = get_or-map (stored_file files c) l j nothing_listed d far in
         omega (arith, up i j nothing_listed lt far, ap (λ (f : StoredFile). f.listed.media.0) first, ap (λ (f : StoredFile). f.listed.media.0) second)
 
-    pairs : (l : List Listed) → AllPairs (λ f g. f.media.0 < g.media.0) l → All (λ f. is_some (placed_as files f) ≡ true) l → AllPairs (λ f g. IsClear (place_of g.segments) g.listed.length (extent_of f)) (map (stored_file files c) l)
+    pairs : (l : List Listed) → AllPairs (λ f g. f.media.0 < g.media.0) l → All (λ f. is_some (placed_as files f) ≡ true) l → AllPairs (λ f g. IsClear (place_of g.stand) g.listed.length (extent_of f)) (map (stored_file files c) l)
     pairs l up has i j d lt below =
         let far : j < length l = omega (arith, below, length-map l (stored_file files c)) in
         let near : i < length l = omega (arith, lt, far) in
@@ -180,7 +196,7 @@ stored_snapshot room number text files c listed number_ok text_ok few ascending 
         let clear : IsClear mg.q.place mg.q.file.length (segment_of mf.q) = apart_members files f g mf mg apart (up i j nothing_listed lt far) in
         let left : IsClear mg.q.place mg.q.file.length (segment_of (placed_of (stored_file files c f))) = subst (λ (p : Placed). IsClear mg.q.place mg.q.file.length (segment_of p)) (sym (placed_stored files c f mf)) clear in
         let both : IsClear (placed_of (stored_file files c g)).place (placed_of (stored_file files c g)).file.length (segment_of (placed_of (stored_file files c f))) = subst (λ (p : Placed). IsClear p.place p.file.length (segment_of (placed_of (stored_file files c f)))) (sym (placed_stored files c g mg)) left in
-        subst (λ (x : StoredFile). IsClear (place_of (get_or (map (stored_file files c) l) j d).segments) (get_or (map (stored_file files c) l) j d).listed.length (extent_of x)) (sym first) (subst (λ (y : StoredFile). IsClear (place_of y.segments) y.listed.length (extent_of (stored_file files c f))) (sym second) both)
+        subst (λ (x : StoredFile). IsClear (place_of (get_or (map (stored_file files c) l) j d).stand) (get_or (map (stored_file files c) l) j d).listed.length (extent_of x)) (sym first) (subst (λ (y : StoredFile). IsClear (place_of y.stand) y.listed.length (extent_of (stored_file files c f))) (sym second) both)
 
 -- and the disk holds them
 pub stored_held : (room : ℕ) (files : List Placed) (c : List ℕ) (listed : List Listed) → length c ≡ DATA + room → All (λ f. is_some (placed_as files f) ≡ true) listed → All (IsPlaced room) files → All (IsWhole c) files → AreFiles (map (stored_file files c) listed) (range c DATA room)
@@ -192,9 +208,9 @@ stored_held room files c listed size held placed whole = each_stored files c lis
         let good : IsWhole c m.q = subst (IsWhole c) (m.at m.q) (whole m.k m.q m.lt) in
         let place : DATA + (m.q.place - DATA) ≡ m.q.place = omega (arith, is.inside.0) in
         let there : range (range c DATA room) (m.q.place - DATA) m.q.file.length ≡ range c m.q.place m.q.file.length = range-range c DATA room (m.q.place - DATA) m.q.file.length (omega (arith, is.inside.0, is.inside.1)) ∙ ap (λ (p : ℕ). range c p m.q.file.length) place in
-        let bytes : (stored_file files c f).bytes ≡ range c m.q.place m.q.file.length ++ [] = ap (bytes_in c) (stored_is files c f m) in
+        let bytes : (stored_file files c f).bytes ≡ range c m.q.place m.q.file.length ++ [] = ap (λ (s : StoredFile). s.bytes) (stored_is files c f m) in
         record {
-          there = ap (λ (l : List Segment). flat_map (λ s. range (range c DATA room) (s.place - DATA) s.size) l) (stored_is files c f m) ∙ ap (λ (l : List ℕ). l ++ []) there ∙ sym bytes;
+          there = ap (λ (l : List Segment). flat_map (λ s. range (range c DATA room) (s.place - DATA) s.size) l) (stored_parts files c f m) ∙ ap (λ (l : List ℕ). l ++ []) there ∙ sym bytes;
           long = ap length bytes ∙ ap length (append-nil (range c m.q.place m.q.file.length)) ∙ length-range c m.q.place m.q.file.length (omega (arith, size, is.inside.1)) ∙ ap (λ (l : Listed). l.length) m.same;
           digest = ap md5 bytes ∙ good ∙ ap (λ (l : Listed). l.md5) m.same;
         }

@@ -3,6 +3,7 @@ use Rattle.std.proofs.Common.{◌≡◌, ℕ, zero, suc, ◌≤◌, List, [], �
 use Rattle.std.proofs.lemmas.List.{append-nil, take_all, take-take, length-take}
 use Rattle.sg_disk.specs.View.{range, Torn}
 use Rattle.sg_disk.specs.Contents.{StoredFile, IsClear}
+use Rattle.sg_disk.specs.Contents.{Extent}
 use Rattle.sg_disk.proofs.Ranges.{range_kept}
 use Rattle.sg_placing.specs.Placing.{segment_of, segments_of_placed}
 use Rattle.sg_placing.specs.declared.placed.Placed.{Placed}
@@ -39,7 +40,7 @@ file_kept place n c d q torn clear =
     ap (λ (l : List ℕ). with_bytes (l ++ [])) (range_kept place n q.place q.file.length c d torn clear)
   where
     with_bytes : List ℕ → StoredFile
-    with_bytes bytes = record { listed = q.file; segments = segments_of_placed q; bytes = bytes }
+    with_bytes bytes = record { listed = q.file; stand = Extent q.place; bytes = bytes }
 
 pub files_kept : (place n : ℕ) (c d : List ℕ) (files : List Placed) → Torn place n c d → All (λ q. IsClear place n (segment_of q)) files → map (file_at d) files ≡ map (file_at c) files
 files_kept place n c d [] torn clear = refl

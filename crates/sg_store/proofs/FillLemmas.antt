@@ -18,7 +18,8 @@ use Rattle.sg_disk.proofs.Writes.{one_stable, bytes_kept}
 use Rattle.sg_placing.specs.Placing.{segment_of, segments_of_placed, placed_of, IsPlaced}
 use Rattle.sg_slots.specs.Bytes.{head_fields, table_bytes}
 use Rattle.sg_slots.specs.Slots.{slot_place, slot_of, opposite}
-use Rattle.sg_store.specs.Ready.{chosen, bytes_in, whole_files, half_files, stored_file, stored_files, is_held, IsReady}
+use Rattle.sg_store.specs.Halves.{half_files}
+use Rattle.sg_store.specs.Ready.{chosen, bytes_in, whole_files, stored_file, stored_files, is_held, IsReady}
 use Rattle.sg_store.specs.declared.store.Store.{Store}
 use Rattle.sg_slots.specs.declared.slots.Slot.{Slot}
 use Rattle.sg_slots.specs.declared.slots.Slot.TheVariants.{Zero, One}

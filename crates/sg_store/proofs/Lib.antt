@@ -2,8 +2,10 @@ pub mod FreshLemmas
 pub mod OpenLemmas
 pub mod FileLemmas
 pub mod StageLemmas
+pub mod DistinctLemmas
 pub mod ChoiceLemmas
 pub mod WholeLemmas
 pub mod SwitchLemmas
 pub mod FillLemmas
 pub mod ReadLemmas
+pub mod ElsewhereLemmas

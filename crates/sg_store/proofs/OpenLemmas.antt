@@ -5,17 +5,19 @@ use Rattle.md5.specs.Md5.{md5}
 use Rattle.sg_disk.specs.View.{View, range, Only}
 use Rattle.sg_disk.proofs.Standing.{settled_by, lawful_inside}
 use Rattle.sg_disk.proofs.Writes.{one_stable}
-use Rattle.sg_disk.specs.Contents.{Segment, StoredFile, Contents, IsClear, IsInside, IsExtent, IsSnapshot, IsLawful, segments_of}
+use Rattle.sg_disk.specs.Contents.{Segment, StoredFile, Contents, IsClear, IsInside, IsExtent, IsSnapshot, IsLawful, taken, all_taken}
+use Rattle.sg_disk.specs.Contents.{Extent}
 use Rattle.sg_disk.specs.StandsFor.{place_of, IsCurrent, AreSlots, IsHeld, AreFiles, bytes_at, StandsFor}
 use Rattle.sg_base.specs.declared.limits.TheConstants.{MAX_ROOM}
 use Rattle.sg_disk.specs.declared.places.TheConstants.{DATA, JOURNAL, SLOT_LEN, SLOT_ONE, SLOT_ZERO}
 use Rattle.sg_disk.proofs.Ranges.{range-range}
-use Rattle.sg_disk.proofs.Extents.{extent_of, segments-extent}
+use Rattle.sg_disk.proofs.Extents.{extent_of, taken_extent, parts_extent}
 use Rattle.sg_placing.specs.Placing.{placed_of, AreApart}
 use Rattle.sg_placing.specs.declared.placed.Placed.{Placed}
 use Rattle.sg_slots.specs.Bytes.{u32_at, u64_at}
 use Rattle.sg_slots.specs.Slots.{slot_of, opposite, head_at, files_of, files_at, spare_at, head_number, head_text}
-use Rattle.sg_store.specs.Ready.{whole_files, half_files, taken_files, IsWhole, IsBegun, HasStaged, Knows, IsReady, text_length}
+use Rattle.sg_store.specs.Halves.{half_files}
+use Rattle.sg_store.specs.Ready.{whole_files, taken_files, IsWhole, IsBegun, HasStaged, Knows, IsReady, text_length}
 use Rattle.sg_store.specs.declared.store.Store.{Store}
 use Rattle.sg_store.specs.declared.store.Half.{Half}
 use Rattle.sg_slots.specs.declared.slots.Slot.{Slot}
@@ -28,15 +30,15 @@ use Rattle.sg_slots.proofs.Soundness.{header_undamaged, slots_undamaged}
 use Rattle.sg_slots.proofs.StandLemmas.{gate_of, slot_stands, spare_found, gate_found, apart_placed}
 
 -- the bytes of a file that the disk holds are whole
-pub whole_held : (room : ℕ) (c : List ℕ) (f : StoredFile) → IsExtent f → All (IsInside room) f.segments → IsHeld (range c DATA room) f → IsWhole c (placed_of f)
+pub whole_held : (room : ℕ) (c : List ℕ) (f : StoredFile) → IsExtent f → All (IsInside room) (taken f) → IsHeld (range c DATA room) f → IsWhole c (placed_of f)
 whole_held room c f is inside held =
-    let extent : f.segments ≡ extent_of f ∷ [] = segments-extent f is in
+    let extent : taken f ≡ extent_of f ∷ [] = taken_extent f is in
     let at = inside 0 (extent_of f) (omega (arith, ap length extent)) in
     let here : IsInside room (extent_of f) = subst (λ (l : List Segment). IsInside room (get_or l 0 (extent_of f))) extent at in
-    let place : DATA + (place_of f.segments - DATA) ≡ place_of f.segments = omega (arith, here.0) in
-    let bytes : range c (place_of f.segments) f.listed.length ++ [] ≡ f.bytes =
-    ap (λ (k : ℕ). range c k f.listed.length ++ []) (sym place) ∙ ap (λ (l : List ℕ). l ++ []) (sym (range-range c DATA room (place_of f.segments - DATA) f.listed.length (omega (arith, here.1, here.0))))
-    ∙ ap (λ (l : List Segment). bytes_at (range c DATA room) l) (sym extent) ∙ held.there in
+    let place : DATA + (place_of f.stand - DATA) ≡ place_of f.stand = omega (arith, here.0) in
+    let bytes : range c (place_of f.stand) f.listed.length ++ [] ≡ f.bytes =
+    ap (λ (k : ℕ). range c k f.listed.length ++ []) (sym place) ∙ ap (λ (l : List ℕ). l ++ []) (sym (range-range c DATA room (place_of f.stand - DATA) f.listed.length (omega (arith, here.1, here.0))))
+    ∙ ap (λ (l : List Segment). bytes_at (range c DATA room) l) (sym (parts_extent f is)) ∙ held.there in
     ap md5 bytes ∙ held.digest
 
 -- what an opening has read
@@ -90,17 +92,17 @@ extents_in room number (Some t) files snapshot k d lt = snapshot.extents k d lt
 pub extents_of : (p : Contents) → IsLawful p → All IsExtent p.files
 extents_of p lawful = extents_in p.room p.number p.text p.files lawful.snapshot
 
-apart_in : (room number : ℕ) (text : Option (List ℕ)) (files : List StoredFile) → MatchOption text ((number ≡ 0) × (files ≡ [])) (λ t. IsSnapshot room number t files) → AllPairs (λ s t. IsClear t.place t.size s) (segments_of files)
-apart_in room number None files none = subst (λ (l : List StoredFile). AllPairs (λ s t. IsClear t.place t.size s) (segments_of l)) (sym none.1) (λ i j d lt below. absurd (omega (arith, below)))
+apart_in : (room number : ℕ) (text : Option (List ℕ)) (files : List StoredFile) → MatchOption text ((number ≡ 0) × (files ≡ [])) (λ t. IsSnapshot room number t files) → AllPairs (λ s t. IsClear t.place t.size s) (all_taken files)
+apart_in room number None files none = subst (λ (l : List StoredFile). AllPairs (λ s t. IsClear t.place t.size s) (all_taken l)) (sym none.1) (λ i j d lt below. absurd (omega (arith, below)))
 apart_in room number (Some t) files snapshot = snapshot.apart
 
-pub apart_of : (p : Contents) → IsLawful p → AllPairs (λ s t. IsClear t.place t.size s) (segments_of p.files)
+pub apart_of : (p : Contents) → IsLawful p → AllPairs (λ s t. IsClear t.place t.size s) (all_taken p.files)
 apart_of p lawful = apart_in p.room p.number p.text p.files lawful.snapshot
 
-pub whole_all : (files : List StoredFile) (room : ℕ) (c : List ℕ) → All IsExtent files → All (λ f. All (IsInside room) f.segments) files → AreFiles files (range c DATA room) → All (IsWhole c) (map placed_of files)
+pub whole_all : (files : List StoredFile) (room : ℕ) (c : List ℕ) → All IsExtent files → All (λ f. All (IsInside room) (taken f)) files → AreFiles files (range c DATA room) → All (IsWhole c) (map placed_of files)
 whole_all files room c extents inside held k d lt =
     let near : k < length files = omega (arith, lt, length-map files placed_of) in
-    let nothing : StoredFile = record { listed = record { media = record { 0 = 0 }; length = 0; md5 = [] }; segments = []; bytes = [] } in
+    let nothing : StoredFile = record { listed = record { media = record { 0 = 0 }; length = 0; md5 = [] }; stand = Extent 0; bytes = [] } in
     subst (IsWhole c) (sym (get_or-map placed_of files k nothing d near)) (whole_held room c (get_or files k nothing) (extents k nothing near) (inside k nothing near) (held k nothing near))
 
 -- the files of contents are whole and apart

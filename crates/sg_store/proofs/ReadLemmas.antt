@@ -4,7 +4,7 @@ use Rattle.std.proofs.lemmas.Bool.{cases_Bool, cases_lt, eqb-true}
 use Rattle.std.proofs.lemmas.List.{append-nil, length-map, get_or-map}
 use Rattle.sg_disk.specs.View.{View, range}
 use Rattle.sg_disk.specs.Runs.{Quiet}
-use Rattle.sg_disk.specs.Contents.{StoredFile, Contents, IsInside, IsExtent, IsSnapshot}
+use Rattle.sg_disk.specs.Contents.{StoredFile, Contents, IsInside, IsExtent, IsSnapshot, taken}
 use Rattle.sg_disk.specs.StandsFor.{place_of, IsCurrent, IsHeld, StandsFor}
 use Rattle.sg_base.specs.declared.limits.TheConstants.{MANIFEST_TEXT}
 use Rattle.sg_disk.specs.declared.places.TheConstants.{DATA, JOURNAL, SLOT_LEN, TEXT}
@@ -85,11 +85,11 @@ file_bytes s p c f q media offset n stands knows found has id fits =
     let same : k ≡ j = same_place p.files k j f (ascending_in p.room p.number p.text p.files stands.lawful.snapshot) near has.1 ids in
     let is : q ≡ placed_of f = q_is ∙ ap (λ (i : ℕ). placed_of (get_or p.files i f)) same ∙ ap placed_of here in
     let held : IsHeld (range c DATA p.room) f = subst (IsHeld (range c DATA p.room)) here (stands.files j f has.1) in
-    let inside : All (IsInside p.room) f.segments = subst (λ (x : StoredFile). All (IsInside p.room) x.segments) here (lawful_inside p stands.lawful j f has.1) in
+    let inside : All (IsInside p.room) (taken f) = subst (λ (x : StoredFile). All (IsInside p.room) (taken x)) here (lawful_inside p stands.lawful j f has.1) in
     let stands_at : file_at c (placed_of f) ≡ f = file_stands p.room c f (subst (λ (x : StoredFile). IsExtent x) here (extents_of p stands.lawful j f has.1)) inside held in
-    let bytes : range c (place_of f.segments) f.listed.length ≡ f.bytes = sym (append-nil (range c (place_of f.segments) f.listed.length)) ∙ ap (λ (x : StoredFile). x.bytes) stands_at in
+    let bytes : range c (place_of f.stand) f.listed.length ≡ f.bytes = sym (append-nil (range c (place_of f.stand) f.listed.length)) ∙ ap (λ (x : StoredFile). x.bytes) stands_at in
     let room : offset + n ≤ f.listed.length = omega (arith, fits, ap (λ (x : Placed). x.file.length) is) in
-    ap (λ (x : Placed). range c (x.place + offset) n) is ∙ sym (range-range c (place_of f.segments) f.listed.length offset n room) ∙ ap (λ (l : List ℕ). range l offset n) bytes
+    ap (λ (x : Placed). range c (x.place + offset) n) is ∙ sym (range-range c (place_of f.stand) f.listed.length offset n room) ∙ ap (λ (l : List ℕ). range l offset n) bytes
 
 -- the file that a condition names
 pub some_placed : (o : Option Placed) (P : Placed → Type 0) → IsSomeAnd o P → (q : Placed) × (o ≡ Some q) × P q

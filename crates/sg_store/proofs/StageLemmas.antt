@@ -12,6 +12,7 @@ use Rattle.md5.specs.Md5.{md5, Holds}
 use Rattle.sg_disk.specs.View.{View, range, put, Torn, Written, Passed, Elapses, Follows}
 use Rattle.sg_disk.specs.Runs.{LeavesOnly, Within}
 use Rattle.sg_disk.specs.Contents.{Segment, StoredFile, Contents, IsClear, AreClear, IsLawful}
+use Rattle.sg_disk.specs.Contents.{Extent}
 use Rattle.sg_disk.specs.StandsFor.{IsOpen, IsCurrent, StandsFor, Settled}
 use Rattle.sg_disk.specs.declared.places.TheConstants.{DATA, JOURNAL, SLOT_LEN, SLOT_ONE, SLOT_ZERO}
 use Rattle.sg_disk.proofs.Ranges.{range_kept, range_put, put_is_torn, length-range}
@@ -27,7 +28,8 @@ use Rattle.sg_store.proofs.FileLemmas.{so_far, all_so_far, none_so_far, files_ke
 use Rattle.sg_store.proofs.OpenLemmas.{extents_of}
 use Rattle.sg_placing.specs.Placing.{segment_of, segments_of_placed, placed_of, IsPlaced, IsFree, IsLongest, AreApart}
 use Rattle.sg_placing.specs.declared.placed.Placed.{Placed}
-use Rattle.sg_store.specs.Ready.{whole_files, half_files, taken_files, bytes_so_far, file_at, sealed_files, half_file, IsWhole, IsBegun, HasStaged, KeepsSnapshot, Knows, IsHalf, IsReady}
+use Rattle.sg_store.specs.Halves.{half_files}
+use Rattle.sg_store.specs.Ready.{whole_files, taken_files, bytes_so_far, file_at, sealed_files, half_file, IsWhole, IsBegun, HasStaged, KeepsSnapshot, Knows, IsHalf, IsReady}
 use Rattle.sg_store.specs.declared.store.Store.{Store}
 use Rattle.sg_store.specs.declared.store.Half.{Half}
 
@@ -311,7 +313,7 @@ sealed_after v w s t p half bs writes ready =
 
 -- a placed file with bytes
 with_bytes : Placed → List ℕ → StoredFile
-with_bytes q bytes = record { listed = q.file; segments = segments_of_placed q; bytes = bytes }
+with_bytes q bytes = record { listed = q.file; stand = Extent q.place; bytes = bytes }
 
 -- the file of which a part is staged
 half_is : (s : Store) (c : List ℕ) (half : Half) → s.half ≡ Some half → half_file s c ≡ Some (with_bytes half.placed (bytes_so_far c half))
@@ -365,6 +367,14 @@ sealed_digest s c half f is digest has was =
     let one : f ≡ with_bytes half.placed (bytes_so_far c half) = half_one s c half f is was in
     let begun : Holds half.hasher (bytes_so_far c half) = subst (λ (h : Option Half). IfSome h (IsBegun c)) is has.begun in
     ap (λ (g : StoredFile). md5 g.bytes) one ∙ digest (bytes_so_far c half) begun ∙ ap (λ (g : StoredFile). g.listed.md5) (sym one)
+
+-- where the digest differs, so do the bytes that came
+pub differs_digest : (s : Store) (c : List ℕ) (half : Half) (f : StoredFile) (found : List ℕ) → s.half ≡ Some half → ((bytes : List ℕ) → Holds half.hasher bytes → md5 bytes ≡ found) → (found ≡ half.placed.file.md5 → ⊥) → HasStaged s c → half_file s c ≡ Some f → (md5 f.bytes ≡ found) × (found ≡ f.listed.md5 → ⊥)
+unfolding with_bytes
+differs_digest s c half f found is digest other has was =
+    let one : f ≡ with_bytes half.placed (bytes_so_far c half) = half_one s c half f is was in
+    let begun : Holds half.hasher (bytes_so_far c half) = subst (λ (h : Option Half). IfSome h (IsBegun c)) is has.begun in
+    (ap (λ (g : StoredFile). md5 g.bytes) one ∙ digest (bytes_so_far c half) begun, λ same. other (same ∙ ap (λ (g : StoredFile). g.listed.md5) one))
 
 -- a half staged file
 pub some_half : (h : Option Half) (P : Half → Type 0) → IsSomeAnd h P → (half : Half) × (h ≡ Some half) × P half

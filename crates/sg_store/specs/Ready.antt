@@ -6,22 +6,19 @@ use Rattle.sg_base.specs.declared.file.Listed.{Listed}
 use Rattle.sg_disk.specs.View.{View, range}
 use Rattle.sg_disk.specs.Runs.{HasOne}
 use Rattle.sg_disk.specs.Contents.{Segment, StoredFile, Contents, switched}
+use Rattle.sg_disk.specs.Contents.{Extent}
 use Rattle.sg_disk.specs.StandsFor.{IsOpen, IsCurrent, Settled}
 use Rattle.sg_disk.specs.declared.places.TheConstants.{JOURNAL}
 use Rattle.sg_placing.specs.Placing.{segments_of_placed, placed_of, AreApart, same_file}
 use Rattle.sg_placing.specs.declared.placed.Placed.{Placed}
 use Rattle.sg_slots.specs.Slots.{slot_of, opposite}
+use Rattle.sg_store.specs.Halves.{half_files}
 use Rattle.sg_store.specs.declared.store.Store.{Store}
 use Rattle.sg_store.specs.declared.store.Half.{Half}
 
 -- the placed files whose bytes are whole: those of the current snapshot, and those that are staged and sealed
 abbrev pub whole_files : Store → List Placed
 whole_files s = s.current ++ s.staged
-
--- the file of which a part is staged
-abbrev pub half_files : Option Half → List Placed
-half_files None = []
-half_files (Some half) = half.placed ∷ []
 
 -- what takes room in the data area
 abbrev pub taken_files : Store → List Placed
@@ -35,7 +32,7 @@ bytes_in c segments = flat_map (λ s. range c s.place s.size) segments
 abbrev pub IsWhole : List ℕ → Placed → Type 0
 IsWhole c p = md5 (bytes_in c (segments_of_placed p)) ≡ p.file.md5
 
--- the bytes that have come of a half staged file: the first of those that stand in its segments
+-- the bytes that have come of a half staged file: the first of those that stand in its range
 abbrev pub bytes_so_far : List ℕ → Half → List ℕ
 bytes_so_far c half = take half.count (bytes_in c (segments_of_placed half.placed))
 
@@ -73,8 +70,7 @@ pub record HasStaged (s : Store) (c : List ℕ) : Type 0 where
 
 -- a placed file with the bytes that stand there
 abbrev pub file_at : List ℕ → Placed → StoredFile
-file_at c p = let segments = segments_of_placed p
-    in record { listed = p.file; segments = segments; bytes = bytes_in c segments }
+file_at c p = record { listed = p.file; stand = Extent p.place; bytes = bytes_in c (segments_of_placed p) }
 
 -- the files that are staged and sealed, in the order in which they were sealed
 abbrev pub sealed_files : Store → List ℕ → List StoredFile
@@ -107,8 +103,8 @@ is_held s listed = is_some (placed_as (whole_files s) listed)
 -- the file of the contents that a listed file among these becomes
 abbrev pub stored_file : List Placed → List ℕ → Listed → StoredFile
 stored_file files c listed =
-    let segments = unwrap_or (option_map segments_of_placed (placed_as files listed)) [] in
-    record { listed = listed; segments = segments; bytes = bytes_in c segments }
+    let placed = chosen files listed in
+    record { listed = listed; stand = Extent placed.place; bytes = bytes_in c (segments_of_placed placed) }
 
 -- the files of a new snapshot
 abbrev pub stored_files : Store → List ℕ → List Listed → List StoredFile

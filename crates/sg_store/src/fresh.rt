@@ -3,7 +3,7 @@ ghost use Rattle.std.specs.Prelude.{◌≡◌, ◌+◌, ◌*◌, ◌<◌, ◌≤
 ghost use Rattle.sg_disk.specs.View.{put, Torn, Sized, Only};
 ghost use Rattle.sg_disk.specs.Runs.{Ran, Broke};
 ghost use Rattle.sg_disk.specs.Contents.{IsRoom, fresh};
-ghost use Rattle.sg_disk.specs.StandsFor.{Settled};
+ghost use Rattle.sg_disk.specs.StandsFor.{disk_len, Settled};
 ghost use Rattle.sg_slots.specs.Bytes.{header_fields, AreZeros};
 
 use sg_base::limits::MAX_EPOCH;
@@ -30,7 +30,7 @@ pub fn format<D: Disk>(disk: &mut D, format: &Format) -> Result<(), DiskFailed>
         → Settled (D.view disk.new) (fresh format.now.display format.now.epoch format.now.room)) }
     ensures stable { OnOk result ((D.view disk.old).told
         → Only (D.view disk.new).bytes (D.view disk.new)) }
-    ensures size { OnOk result ((D.view disk.new).size ≡ DATA + format.now.room) }
+    ensures size { OnOk result ((D.view disk.new).size ≡ disk_len format.now.room) }
     ensures ran { OnOk result (Ran FORMAT_CALLS (D.view disk.old) (D.view disk.new)) }
     ensures broke { OnErr result (Broke (D.view disk.old) (D.view disk.new)) }
 {

@@ -2,10 +2,10 @@
 ghost use Rattle.std.specs.Prelude.{◌≡◌, ◌≢◌, ◌⊎◌, ℕ, ◌+◌, ◌<◌, ◌≤◌, [], length, None, Some, IfOk, IfErr, OnOk, OnErr, IsErrOf, is_some, All, vec_capacity, slice_index};
 ghost use Rattle.std.specs.Option.{ForSome};
 ghost use Rattle.sg_disk.specs.View.{Only};
-ghost use Rattle.sg_disk.specs.Runs.{LeavesOnly, Ran, Quiet};
+ghost use Rattle.sg_disk.specs.Runs.{LeavesOnly, Ran, Quiet, Keeps};
 ghost use Rattle.sg_disk.specs.Contents.{Contents};
-ghost use Rattle.sg_disk.specs.StandsFor.{StandsFor, StandsForOne, Two, Between};
-ghost use Rattle.sg_placing.specs.Placing.{IsPlaced};
+ghost use Rattle.sg_disk.specs.StandsFor.{disk_len, StandsFor, StandsForOne, Two, Between};
+ghost use Rattle.sg_placing.specs.Placing.{IsPlaced, AreAscending};
 ghost use Rattle.sg_slots.specs.Bytes.{u32_at, u64_at};
 ghost use Rattle.sg_slots.specs.Slots.{slot_place, head_at, files_at, spare_at, in_slot, head_number, head_text};
 ghost use Rattle.sg_slots.specs.Damage.{slot_damage, twin_damage, overlap_damage, slots_damage, damage_of};
@@ -14,7 +14,7 @@ ghost use Rattle.sg_store.specs.Ready.{IsReady};
 
 use crate::store::Store;
 use sg_base::limits::{MANIFEST_TEXT, MAX_ROOM};
-use sg_disk::{DATA, Disk, OPEN_CALLS, TABLE_LEN};
+use sg_disk::{DATA, Disk, JOURNAL, JOURNAL_LEN, OPEN_CALLS, TABLE_LEN};
 use sg_placing::Shelf;
 use sg_slots::{Format, OpenFault, Slot, SlotPair, read_header, read_slots};
 use std::alloc::{AllocError, Global};
@@ -49,6 +49,8 @@ fn assemble(header: Format, slots: SlotPair, rooms: Rooms) -> Store
     requires one_text { ForSome slots.one (λ h. h.text ≤ MANIFEST_TEXT) }
     requires zero_files { All (IsPlaced header.room) rooms.zero }
     requires one_files { All (IsPlaced header.room) rooms.one }
+    requires zero_ascending { AreAscending rooms.zero }
+    requires one_ascending { AreAscending rooms.one }
     requires staged { rooms.staged ≡ [] }
     requires table { TABLE_LEN ≤ vec_capacity rooms.table }
     ensures display { result.display ≡ header.display }
@@ -96,8 +98,9 @@ impl Store {
     /// Opens the store on a disk: its current snapshot is that of the open slot with the greater number.
     ///
     /// It begins with a sync and then only reads, so a crash at any moment of it leaves what a crash before it could leave.
-    /// It takes all the memory of the store. Where a disk has several faults, the answer is the first one in this order: the
-    /// header; slot 0 and then slot 1, each by its fields and its entries; equal numbers; overlaps.
+    /// It takes all the memory of the store. `Unformatted` comes before every `Damaged`: no field is looked at on a disk that is
+    /// too short, or behind a closed gate. Of several damages the answer is the first one in this order: the header; slot 0 and
+    /// then slot 1, each by its fields and its entries; equal numbers; overlaps.
     pub fn open<D: Disk>(alloc: Global, disk: &mut D) -> Result<Store, OpenFault>
 
         // A crash at any moment of it leaves what a crash before it could leave.
@@ -116,11 +119,12 @@ impl Store {
         ensures sealed { IfOk result (λ s. s.staged ≡ []) }
 
         // What it leaves of the disk.
+        ensures keeps { OnOk result (Keeps JOURNAL JOURNAL_LEN (D.view disk.old) (D.view disk.new)) }
         ensures stable { OnOk result ((D.view disk.old).told
             → Only (D.view disk.new).bytes (D.view disk.new)) }
         ensures bytes { OnOk result ((D.view disk.old).told
             → (D.view disk.new).bytes ≡ (D.view disk.old).bytes) }
-        ensures size { IfOk result (λ s. (D.view disk.new).size ≡ DATA + s.room) }
+        ensures size { IfOk result (λ s. (D.view disk.new).size ≡ disk_len s.room) }
         ensures told_size { (D.view disk.old).told
             → (D.view disk.new).size ≡ (D.view disk.old).size }
         ensures ran { OnOk result (Ran OPEN_CALLS (D.view disk.old) (D.view disk.new)) }
@@ -136,6 +140,10 @@ impl Store {
             → IsErrOf result (OpenFault.Damaged place found) → v.told
             → damage_of (D.view disk.new).size v.bytes
             ≡ Some (record { place = place; found = found }) }
+        ensures damaged_open { (place found : ℕ) → IsErrOf result (OpenFault.Damaged place found)
+            → (D.view disk.old).told → slice_index (D.view disk.old).bytes 0 ≡ 1 }
+        ensures damaged_long { (place found : ℕ) → IsErrOf result (OpenFault.Damaged place found)
+            → DATA ≤ (D.view disk.new).size }
         ensures sound { OnOk result ((D.view disk.old).told
             → damage_of (D.view disk.new).size (D.view disk.old).bytes ≡ None) }
 

@@ -3,6 +3,8 @@ ghost use Rattle.std.specs.Prelude.{◌≡◌, ℕ, ◌+◌, ◌≤◌, ◌==◌
 ghost use Rattle.sg_disk.specs.View.{range};
 ghost use Rattle.sg_disk.specs.Runs.{LeavesOnly, Broke, Quiet};
 ghost use Rattle.sg_disk.specs.Contents.{StoredFile, Contents};
+ghost use Rattle.sg_disk.specs.StandsFor.{disk_len, Settled};
+ghost use Rattle.sg_slots.specs.Slots.{slot_place, opposite};
 ghost use Rattle.sg_store.specs.Ready.{Knows, IsReady};
 
 use crate::store::Store;
@@ -15,6 +17,7 @@ impl Store {
     /// Where the manifest of the snapshot begins on the disk.
     pub fn manifest_place(&self) -> u64
         requires { 1 ≤ self.now.number }
+        ensures place { result ≡ slot_place (opposite self.now.spare) + TEXT }
         ensures text { (p : Contents) (c text : List ℕ) → Knows self.now p c → p.text ≡ Some text
             → range c result (length text) ≡ text }
         ensures inside { result + MANIFEST_TEXT ≤ DATA }
@@ -26,7 +29,7 @@ impl Store {
     pub fn read_manifest<D: Disk>(&self, disk: &mut D, into: &mut [u8]) -> Result<(), DiskFailed>
         requires snapshot { 1 ≤ self.now.number }
         requires buffer { length into.old ≡ self.now.text }
-        requires disk { (D.view disk.old).size ≡ DATA + self.now.room }
+        requires disk { (D.view disk.old).size ≡ disk_len self.now.room }
 
         // After `Ok` these are the bytes of the contents, for which the disk stands as before.
         ensures text { OnOk result ((p : Contents) (text : List ℕ)
@@ -40,6 +43,8 @@ impl Store {
             (D.view disk.new) }
         ensures size { (D.view disk.new).size ≡ (D.view disk.old).size }
         ensures broke { OnErr result (Broke (D.view disk.old) (D.view disk.new)) }
+        ensures settled { OnErr result ((p : Contents) → Settled (D.view disk.old) p
+            → Settled (D.view disk.new) p) }
     {
         disk.read(self.manifest_place(), into)?;
         Ok(())
@@ -72,7 +77,7 @@ impl Store {
     ) -> Result<(), DiskFailed>
         requires file { IsSomeAnd (find (λ q. q.file.media.0 == media.0) self.now.current)
             (λ q. offset + length into.old ≤ q.file.length) }
-        requires disk { (D.view disk.old).size ≡ DATA + self.now.room }
+        requires disk { (D.view disk.old).size ≡ disk_len self.now.room }
 
         // After `Ok` these are the bytes of the contents, for which the disk stands as before.
         ensures bytes { OnOk result ((p : Contents) (f : StoredFile)
@@ -87,6 +92,8 @@ impl Store {
             (D.view disk.new) }
         ensures size { (D.view disk.new).size ≡ (D.view disk.old).size }
         ensures broke { OnErr result (Broke (D.view disk.old) (D.view disk.new)) }
+        ensures settled { OnErr result ((p : Contents) → Settled (D.view disk.old) p
+            → Settled (D.view disk.new) p) }
     {
         let place = self.place_of(media);
         disk.read(place + u64::from(offset), into)?;

@@ -1,11 +1,10 @@
 // The staging of files beside the snapshot. No room is taken from memory here.
 ghost use Rattle.std.specs.Prelude.{◌≡◌, ◌≢◌, ◌⊎◌, ◌↔◌, ℕ, ◌+◌, ◌<◌, ◌≤◌, List, [], ◌∷◌, ◌++◌, length, None, Some, OnOk, OnErr, IsErrOf, IsSomeAnd, IfSome, IsTrue, is_some, option_map, filter, true, false};
-ghost use Rattle.std.specs.List.{list_any};
 ghost use Rattle.md5.specs.Md5.{md5, Holds};
-ghost use Rattle.sg_disk.specs.Runs.{LeavesOnly, Ran, Broke, Within};
+ghost use Rattle.sg_disk.specs.Runs.{LeavesOnly, Ran, Broke, Within, Keeps};
 ghost use Rattle.sg_disk.specs.Contents.{StoredFile, Contents};
-ghost use Rattle.sg_disk.specs.StandsFor.{StandsFor, HasOneJournal};
-ghost use Rattle.sg_placing.specs.Placing.{IsLowest, IsLongest, same_file};
+ghost use Rattle.sg_disk.specs.StandsFor.{disk_len, StandsFor, Settled, HasOneJournal};
+ghost use Rattle.sg_placing.specs.Placing.{IsLowest, IsLongest, is_listed};
 ghost use Rattle.sg_placing.specs.declared.placed.Placed.{Placed};
 ghost use Rattle.sg_store.specs.declared.faults.NoSpace.{NoSpace};
 ghost use Rattle.sg_store.specs.declared.faults.DigestDiffers.{DigestDiffers};
@@ -92,14 +91,16 @@ impl Store {
 
     /// Writes the next bytes of the half staged file to its place, in one call. They are stable after the next switch.
     pub fn stage_bytes<D: Disk>(&mut self, disk: &mut D, bytes: &[u8]) -> Result<(), DiskFailed>
-        requires fits { IsSomeAnd self.old.half (λ h. h.count + length bytes.now
-            ≤ h.placed.file.length) }
-        requires disk { (D.view disk.old).size ≡ DATA + self.old.room }
+        requires fits { IsSomeAnd self.old.half
+            (λ h. h.count + length bytes.now ≤ h.placed.file.length) }
+        requires disk { (D.view disk.old).size ≡ disk_len self.old.room }
 
         // At any moment a crash leaves the contents as they were. Nothing but the data area is written.
         ensures any_moment { (p : Contents) → IsReady (D.view disk.old) self.old p
             → LeavesOnly (StandsFor p) (D.view disk.old) (D.view disk.new) }
         ensures within { Within DATA self.old.room (D.view disk.old) (D.view disk.new) }
+        ensures keeps { (place n : ℕ) → place + n ≤ DATA
+            → Keeps place n (D.view disk.old) (D.view disk.new) }
         ensures journal { (D.view disk.old).told → HasOneJournal (D.view disk.old)
             → HasOneJournal (D.view disk.new) }
         ensures size { (D.view disk.new).size ≡ (D.view disk.old).size }
@@ -122,6 +123,8 @@ impl Store {
         ensures snapshot { KeepsSnapshot self.old self.new }
         ensures sealed { self.new.staged ≡ self.old.staged }
         ensures broke { OnErr result (Broke (D.view disk.old) (D.view disk.new)) }
+        ensures settled { OnErr result ((p : Contents) → IsReady (D.view disk.old) self.old p
+            → Settled (D.view disk.new) p) }
     {
         let place = self.next_place();
         disk.write_at(place, bytes)?;
@@ -142,8 +145,8 @@ impl Store {
 
     // Takes the next bytes of the half staged file into its digest.
     fn take_in(&mut self, bytes: &[u8])
-        requires { IsSomeAnd self.old.half (λ h. h.count + length bytes.now
-            ≤ h.placed.file.length) }
+        requires { IsSomeAnd self.old.half
+            (λ h. h.count + length bytes.now ≤ h.placed.file.length) }
         ensures bytes { (placed : Placed) (before : List ℕ) → IsHalf self.old placed before
             → IsHalf self.new placed (before ++ bytes.now) }
         ensures snapshot { KeepsSnapshot self.old self.new }
@@ -174,6 +177,9 @@ impl Store {
         ensures differs { (fault : DigestDiffers) → IsErrOf result fault
             → (placed : Placed) (bytes : List ℕ) → IsHalf self.old placed bytes
             → (md5 bytes ≡ fault.found) × (fault.found ≢ placed.file.md5) }
+        ensures differs_bytes { (fault : DigestDiffers) → IsErrOf result fault
+            → (c : List ℕ) (f : StoredFile) → HasStaged self.old c → half_file self.old c ≡ Some f
+            → (md5 f.bytes ≡ fault.found) × (fault.found ≢ f.listed.md5) }
         ensures given_up { OnErr result (self.new.staged ≡ self.old.staged) }
 
         // What is so in both cases.
@@ -194,12 +200,12 @@ impl Store {
 
     /// Gives up the staged files that aren't among these, the half staged one too.
     pub fn stage_keep(&mut self, files: &[Listed])
-        ensures sealed { self.new.staged ≡ filter (λ p. list_any
-            (λ f. same_file f p.file) files.now) self.old.staged }
-        ensures kept { IfSome self.old.half (λ h. list_any
-            (λ f. same_file f h.placed.file) files.now ≡ true → self.new.half ≡ self.old.half) }
-        ensures given_up { IfSome self.old.half (λ h. list_any
-            (λ f. same_file f h.placed.file) files.now ≡ false → self.new.half ≡ None) }
+        ensures sealed { self.new.staged ≡ filter (λ p. is_listed files.now p.file)
+            self.old.staged }
+        ensures kept { IfSome self.old.half (λ h. is_listed files.now h.placed.file ≡ true
+            → self.new.half ≡ self.old.half) }
+        ensures given_up { IfSome self.old.half (λ h. is_listed files.now h.placed.file ≡ false
+            → self.new.half ≡ None) }
         ensures either { (self.new.half ≡ self.old.half) ⊎ (self.new.half ≡ None) }
         ensures snapshot { KeepsSnapshot self.old self.new }
         ensures staged { (c : List ℕ) → HasStaged self.old c → HasStaged self.new c }
@@ -210,8 +216,8 @@ impl Store {
 
     // Gives up the sealed files that aren't among these.
     fn keep_sealed(&mut self, files: &[Listed])
-        ensures sealed { self.new.staged ≡ filter (λ p. list_any
-            (λ f. same_file f p.file) files.now) self.old.staged }
+        ensures sealed { self.new.staged ≡ filter (λ p. is_listed files.now p.file)
+            self.old.staged }
         ensures half { self.new.half ≡ self.old.half }
         ensures snapshot { KeepsSnapshot self.old self.new }
     {
@@ -220,10 +226,10 @@ impl Store {
 
     // Gives up the half staged file, where it isn't among these.
     fn keep_half(&mut self, files: &[Listed])
-        ensures kept { IfSome self.old.half (λ h. list_any
-            (λ f. same_file f h.placed.file) files.now ≡ true → self.new.half ≡ self.old.half) }
-        ensures given_up { IfSome self.old.half (λ h. list_any
-            (λ f. same_file f h.placed.file) files.now ≡ false → self.new.half ≡ None) }
+        ensures kept { IfSome self.old.half (λ h. is_listed files.now h.placed.file ≡ true
+            → self.new.half ≡ self.old.half) }
+        ensures given_up { IfSome self.old.half (λ h. is_listed files.now h.placed.file ≡ false
+            → self.new.half ≡ None) }
         ensures either { (self.new.half ≡ self.old.half) ⊎ (self.new.half ≡ None) }
         ensures sealed { self.new.staged ≡ self.old.staged }
         ensures snapshot { KeepsSnapshot self.old self.new }

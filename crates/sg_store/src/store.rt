@@ -1,10 +1,11 @@
 // The store in memory, and its calls that need no disk.
-ghost use Rattle.std.specs.Prelude.{◌≡◌, ◌≤◌, ◌<◌, length, All, vec_capacity, slice_index_or};
+ghost use Rattle.std.specs.Prelude.{◌≡◌, ◌≤◌, ◌<◌, ◌++◌, length, All, vec_capacity, slice_index_or};
 ghost use Rattle.sg_base.specs.declared.limits.TheConstants.{MAX_ROOM, MANIFEST_FILES, MANIFEST_TEXT};
 ghost use Rattle.sg_disk.specs.declared.places.TheConstants.{TABLE_LEN};
 ghost use Rattle.sg_placing.specs.declared.placed.Placed.{Placed};
 ghost use Rattle.std.specs.Option.{ForSome};
-ghost use Rattle.sg_placing.specs.Placing.{IsPlaced};
+ghost use Rattle.sg_placing.specs.Placing.{IsPlaced, AreAscending, AreDistinct};
+ghost use Rattle.sg_store.specs.Halves.{half_files};
 
 use md5::Md5;
 use sg_base::Listed;
@@ -49,6 +50,9 @@ pub struct Store {
     ghost half_placed: { ForSome half (λ h. IsPlaced room h.placed) },
     ghost half_count: { ForSome half (λ h. h.count ≤ h.placed.file.length) },
     ghost half_few: { ForSome half (λ h. length staged < MANIFEST_FILES) },
+    // Whatever disk it is, the snapshot's files are by id, and no two of all files are the same.
+    ghost ascending: { AreAscending current },
+    ghost distinct: { AreDistinct (current ++ staged ++ half_files half) },
 }
 
 impl Store {

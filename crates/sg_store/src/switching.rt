@@ -1,11 +1,11 @@
 // The switch: the next snapshot becomes the current one by one byte.
 ghost use Rattle.std.specs.Prelude.{◌≡◌, ◌≢◌, ℕ, ◌+◌, ◌-◌, ◌<◌, ◌≤◌, ◌^◌, ◌==◌, ◌*◌, [], length, map, None, OnOk, OnErr, IsErrOf, All, AllPairs, true, false, not};
-ghost use Rattle.sg_disk.specs.Runs.{LeavesOnly, Ran, Broke, Within};
+ghost use Rattle.sg_disk.specs.Runs.{LeavesOnly, Ran, Broke, Within, Keeps};
 ghost use Rattle.sg_disk.specs.Contents.{Contents};
-ghost use Rattle.sg_disk.specs.StandsFor.{StandsFor, Either, Two, Between, HasOneJournal};
-ghost use Rattle.sg_placing.specs.Placing.{IsPlaced};
+ghost use Rattle.sg_disk.specs.StandsFor.{disk_len, StandsFor, Either, Two, Between, HasOneJournal};
+ghost use Rattle.sg_placing.specs.Placing.{IsPlaced, AreAscending};
 ghost use Rattle.sg_slots.specs.Bytes.{table_bytes};
-ghost use Rattle.sg_slots.specs.Slots.{opposite};
+ghost use Rattle.sg_slots.specs.Slots.{opposite, IsClearOfSlots};
 ghost use Rattle.sg_store.specs.Ready.{whole_files, chosen, is_held, after_switch, KeepsSnapshot, IsReady};
 
 use crate::choice::choose_files;
@@ -13,7 +13,7 @@ use crate::faults::SwitchFault;
 use crate::store::Store;
 use sg_base::Listed;
 use sg_base::limits::{MANIFEST_FILES, MANIFEST_TEXT};
-use sg_disk::{DATA, Disk, SLOT_LEN, SLOT_ZERO, SWITCH_CALLS, TABLE_LEN, close_gate, write_synced};
+use sg_disk::{Disk, SLOT_LEN, SLOT_ZERO, SWITCH_CALLS, TABLE_LEN, close_gate, write_synced};
 use sg_slots::{fill_slot, fill_table, head_fields_of};
 use std::mem;
 
@@ -34,35 +34,38 @@ impl Store {
         requires held { All (λ f. is_held self.old f ≡ true) files.now }
         requires some { 1 ≤ length manifest.now }
         requires long { length manifest.now ≤ MANIFEST_TEXT }
-        requires disk { (D.view disk.old).size ≡ DATA + self.old.room }
+        requires disk { (D.view disk.old).size ≡ disk_len self.old.room }
 
         // At any moment a crash leaves the contents before or those after, whole. Nothing but the slots is written.
         ensures any_moment { let v = D.view disk.old in (p : Contents) → IsReady v self.old p
             → LeavesOnly (Either p (after_switch self.old v.bytes p manifest.now files.now))
             v (D.view disk.new) }
         ensures within { Within SLOT_ZERO (2 * SLOT_LEN) (D.view disk.old) (D.view disk.new) }
+        ensures keeps { (place n : ℕ) → IsClearOfSlots place n
+            → Keeps place n (D.view disk.old) (D.view disk.new) }
         ensures journal { (D.view disk.old).told → HasOneJournal (D.view disk.old)
             → HasOneJournal (D.view disk.new) }
         ensures size { (D.view disk.new).size ≡ (D.view disk.old).size }
+        ensures display { self.new.display ≡ self.old.display }
+        ensures epoch { self.new.epoch ≡ self.old.epoch }
+        ensures room { self.new.room ≡ self.old.room }
 
         // After `Ok` the disk is settled with the contents after, the store knows them, and nothing is staged.
         ensures ready { OnOk result (let v = D.view disk.old in (p : Contents) → IsReady v self.old p
             → IsReady (D.view disk.new) self.new
             (after_switch self.old v.bytes p manifest.now files.now)) }
         ensures number { OnOk result (self.new.number ≡ self.old.number + 1) }
+        ensures text { OnOk result (self.new.text ≡ length manifest.now) }
+        ensures files { OnOk result (map (λ p. p.file) self.new.current ≡ files.now) }
         ensures idle { OnOk result (self.new.half ≡ None) }
         ensures sealed { OnOk result (self.new.staged ≡ []) }
-        ensures room { self.new.room ≡ self.old.room }
         ensures ran { OnOk result (Ran SWITCH_CALLS (D.view disk.old) (D.view disk.new)) }
 
         // Where the numbers are used up, nothing changes.
         ensures spent { IsErrOf result SwitchFault.Spent → self.old.number ≡ u32.MAX }
         ensures spent_so { self.old.number ≡ u32.MAX → IsErrOf result SwitchFault.Spent }
-        ensures kept { IsErrOf result SwitchFault.Spent → self.new ≡ self.old }
-        ensures still { IsErrOf result SwitchFault.Spent
-            → Ran 0 (D.view disk.old) (D.view disk.new) }
-        ensures untouched { IsErrOf result SwitchFault.Spent
-            → LeavesOnly (D.view disk.old).images (D.view disk.old) (D.view disk.new) }
+        ensures spent_kept { IsErrOf result SwitchFault.Spent
+            → (self.new ≡ self.old) × (disk.new ≡ disk.old) }
 
         // Where the disk failed, it stands for the contents before or those after.
         ensures broke { IsErrOf result SwitchFault.Disk
@@ -109,6 +112,7 @@ impl Store {
     // Takes the gathered files as those of the snapshot.
     fn take_over(&mut self, number: u32, text: u32)
         requires placed { All (IsPlaced self.old.room) self.old.next }
+        requires ascending { AreAscending self.old.next }
         requires text { text ≤ MANIFEST_TEXT }
         ensures display { self.new.display ≡ self.old.display }
         ensures epoch { self.new.epoch ≡ self.old.epoch }

@@ -13,7 +13,8 @@ use Rattle.sg_disk.proofs.Moments.{started, weaker}
 use Rattle.sg_disk.proofs.Standing.{settled_read}
 use Rattle.sg_placing.specs.Placing.{placed_of, same_file, IsLowest}
 use Rattle.sg_placing.specs.declared.placed.Placed.{Placed}
-use Rattle.sg_store.specs.Ready.{whole_files, half_files, taken_files, is_held, file_at, sealed_files, half_file, bytes_so_far, stored_files, HasStaged, KeepsSnapshot, IsHalf, IsReady}
+use Rattle.sg_store.specs.Halves.{half_files}
+use Rattle.sg_store.specs.Ready.{whole_files, taken_files, is_held, file_at, sealed_files, half_file, bytes_so_far, stored_files, HasStaged, KeepsSnapshot, IsHalf, IsReady}
 use Rattle.sg_store.specs.declared.store.Store.{Store}
 use Rattle.sg_store.specs.declared.store.Half.{Half}
 use Rattle.sg_store.proofs.StageLemmas.{knows_kept, half_begun}

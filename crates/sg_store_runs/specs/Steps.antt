@@ -5,7 +5,8 @@ use Rattle.md5.specs.Md5.{md5}
 use Rattle.sg_base.specs.declared.file.Listed.{Listed}
 use Rattle.sg_disk.specs.Contents.{StoredFile, switched}
 use Rattle.sg_disk.specs.StandsFor.{StandsFor}
-use Rattle.sg_placing.specs.Placing.{segments_of_placed, placed_of, same_file, IsLowest}
+use Rattle.sg_disk.specs.Contents.{Extent}
+use Rattle.sg_placing.specs.Placing.{placed_of, same_file, IsLowest}
 use Rattle.sg_store_runs.specs.Stage.{Stage}
 use Rattle.sg_store_runs.specs.declared.call.Call.{Call}
 use Rattle.sg_store_runs.specs.declared.call.Call.TheVariants.{Begin, Bytes, Seal, Keep, Switch, Open}
@@ -16,11 +17,7 @@ whole_of stage = stage.contents.files ++ stage.sealed
 
 -- a file at a place, of which no byte has come
 abbrev pub begun_at : ℕ → Listed → StoredFile
-begun_at place file = record {
-  listed = file;
-  segments = segments_of_placed (record { file = file; place = place });
-  bytes = [];
-}
+begun_at place file = record { listed = file; stand = Extent place; bytes = [] }
 
 -- whether a file is one of the listed ones: it has the id, the length and the MD5 of one of them
 abbrev pub is_among : List Listed → StoredFile → Bool

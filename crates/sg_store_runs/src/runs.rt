@@ -1,7 +1,7 @@
 // A list of calls, one behind another.
 ghost use Rattle.std.specs.Prelude.{◌≡◌, ℕ, ◌+◌, OnOk, IfErr, IsErrOf, Contains};
 ghost use Rattle.sg_disk.specs.Runs.{LeavesOnly, Ran, Broke};
-ghost use Rattle.sg_disk.specs.StandsFor.{HasOneJournal};
+ghost use Rattle.sg_disk.specs.StandsFor.{disk_len, HasOneJournal};
 ghost use Rattle.sg_store_runs.specs.declared.call.Call.{Call};
 ghost use Rattle.sg_store_runs.specs.Lawful.{IsLawful};
 ghost use Rattle.sg_store_runs.specs.Stage.{Stage, IsAt};
@@ -11,7 +11,7 @@ ghost use Rattle.sg_store_runs.specs.Stops.{BlamesDisk, Tells};
 use crate::call::Call;
 use crate::steps::step;
 use crate::stop::Stop;
-use sg_disk::{DATA, Disk};
+use sg_disk::Disk;
 use sg_store::Store;
 use std::alloc::Global;
 
@@ -27,14 +27,14 @@ pub fn run<D: Disk>(
     disk: &mut D,
     calls: &[Call],
 ) -> Result<(), Stop>
-    requires disk { (D.view disk.old).size ≡ DATA + store.old.room }
+    requires disk { (D.view disk.old).size ≡ disk_len store.old.room }
 
     // Whatever the answer, a crash at any moment leaves the contents after some first calls.
     ensures any_moment { (start : Stage) → IsAt (D.view disk.old) store.old start
         → LeavesOnly (StandsForSome start calls.now) (D.view disk.old) (D.view disk.new) }
     ensures ran { OnOk result ((start : Stage) → IsAt (D.view disk.old) store.old start
         → (end : Stage) × Runs start calls.now end × IsAt (D.view disk.new) store.new end) }
-    ensures size { OnOk result ((D.view disk.new).size ≡ DATA + store.new.room) }
+    ensures size { OnOk result ((D.view disk.new).size ≡ disk_len store.new.room) }
     ensures journal { OnOk result ((D.view disk.old).told → HasOneJournal (D.view disk.old)
         → HasOneJournal (D.view disk.new)) }
     ensures passed { OnOk result (Ran 0 (D.view disk.old) (D.view disk.new)) }

@@ -1,7 +1,7 @@
 // The calls of a list, each where it is lawful.
 ghost use Rattle.std.specs.Prelude.{◌≡◌, ℕ, ◌+◌, List, [], ◌∷◌, OnOk, IfErr, IsErrOf};
 ghost use Rattle.sg_disk.specs.Runs.{LeavesOnly, Ran, Broke};
-ghost use Rattle.sg_disk.specs.StandsFor.{HasOneJournal};
+ghost use Rattle.sg_disk.specs.StandsFor.{disk_len, HasOneJournal};
 ghost use Rattle.sg_store_runs.specs.declared.call.Call.{Call};
 ghost use Rattle.sg_store_runs.specs.Lawful.{IsLawful};
 ghost use Rattle.sg_store_runs.specs.Stage.{Stage, Shows, IsAt};
@@ -12,7 +12,7 @@ use crate::call::Call;
 use crate::lawful::{may_begin, may_bring, may_seal, may_switch};
 use crate::stop::Stop;
 use sg_base::Listed;
-use sg_disk::{DATA, Disk};
+use sg_disk::Disk;
 use sg_store::Store;
 use std::alloc::Global;
 
@@ -71,7 +71,7 @@ fn keep(store: &mut Store, files: &[Listed])
 
 // Brings the next bytes of the half staged file.
 fn bring<D: Disk>(store: &mut Store, disk: &mut D, bytes: &[u8]) -> Result<(), Stop>
-    requires disk { (D.view disk.old).size ≡ DATA + store.old.room }
+    requires disk { (D.view disk.old).size ≡ disk_len store.old.room }
 
     // A crash at any moment leaves the contents before the call or after it.
     ensures any_moment { (old : Stage) → IsAt (D.view disk.old) store.old old
@@ -82,7 +82,7 @@ fn bring<D: Disk>(store: &mut Store, disk: &mut D, bytes: &[u8]) -> Result<(), S
     ensures stepped { OnOk result ((old : Stage) → IsAt (D.view disk.old) store.old old
         → (new : Stage) × Step old (Call.Bytes bytes.now) new
         × IsAt (D.view disk.new) store.new new) }
-    ensures size { OnOk result ((D.view disk.new).size ≡ DATA + store.new.room) }
+    ensures size { OnOk result ((D.view disk.new).size ≡ disk_len store.new.room) }
     ensures journal { OnOk result ((D.view disk.old).told → HasOneJournal (D.view disk.old)
         → HasOneJournal (D.view disk.new)) }
     ensures passed { OnOk result (Ran 0 (D.view disk.old) (D.view disk.new)) }
@@ -109,7 +109,7 @@ fn switch<D: Disk>(
     manifest: &[u8],
     files: &[Listed],
 ) -> Result<(), Stop>
-    requires disk { (D.view disk.old).size ≡ DATA + store.old.room }
+    requires disk { (D.view disk.old).size ≡ disk_len store.old.room }
 
     // A crash at any moment leaves the contents before the call or after it.
     ensures any_moment { (old : Stage) → IsAt (D.view disk.old) store.old old
@@ -120,7 +120,7 @@ fn switch<D: Disk>(
     ensures stepped { OnOk result ((old : Stage) → IsAt (D.view disk.old) store.old old
         → (new : Stage) × Step old (Call.Switch manifest.now files.now) new
         × IsAt (D.view disk.new) store.new new) }
-    ensures size { OnOk result ((D.view disk.new).size ≡ DATA + store.new.room) }
+    ensures size { OnOk result ((D.view disk.new).size ≡ disk_len store.new.room) }
     ensures journal { OnOk result ((D.view disk.old).told → HasOneJournal (D.view disk.old)
         → HasOneJournal (D.view disk.new)) }
     ensures passed { OnOk result (Ran 0 (D.view disk.old) (D.view disk.new)) }
@@ -150,7 +150,7 @@ fn open_again<D: Disk>(alloc: Global, store: &mut Store, disk: &mut D) -> Result
     // After `Ok` the store is a step further.
     ensures stepped { OnOk result ((old : Stage) → IsAt (D.view disk.old) store.old old
         → (new : Stage) × Step old Call.Open new × IsAt (D.view disk.new) store.new new) }
-    ensures size { OnOk result ((D.view disk.new).size ≡ DATA + store.new.room) }
+    ensures size { OnOk result ((D.view disk.new).size ≡ disk_len store.new.room) }
     ensures journal { OnOk result ((D.view disk.old).told → HasOneJournal (D.view disk.old)
         → HasOneJournal (D.view disk.new)) }
     ensures passed { OnOk result (Ran 0 (D.view disk.old) (D.view disk.new)) }
@@ -174,7 +174,7 @@ pub fn step<D: Disk>(
     disk: &mut D,
     call: &Call,
 ) -> Result<(), Stop>
-    requires disk { (D.view disk.old).size ≡ DATA + store.old.room }
+    requires disk { (D.view disk.old).size ≡ disk_len store.old.room }
 
     // A crash at any moment leaves the contents before the call or after it.
     ensures any_moment { (old : Stage) → IsAt (D.view disk.old) store.old old
@@ -183,7 +183,7 @@ pub fn step<D: Disk>(
     // After `Ok` the store is a step further.
     ensures stepped { OnOk result ((old : Stage) → IsAt (D.view disk.old) store.old old
         → (new : Stage) × Step old call.now new × IsAt (D.view disk.new) store.new new) }
-    ensures size { OnOk result ((D.view disk.new).size ≡ DATA + store.new.room) }
+    ensures size { OnOk result ((D.view disk.new).size ≡ disk_len store.new.room) }
     ensures journal { OnOk result ((D.view disk.old).told → HasOneJournal (D.view disk.old)
         → HasOneJournal (D.view disk.new)) }
     ensures passed { OnOk result (Ran 0 (D.view disk.old) (D.view disk.new)) }

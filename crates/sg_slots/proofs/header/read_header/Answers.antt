@@ -122,3 +122,11 @@ returns-then-bytes-ne1-clause-told_size g c told = c.read.ensures.size ∙ size_
 
 pub returns-clause-told_size : goal.returns-clause-told_size
 returns-clause-told_size g c told = c.read.ensures.size ∙ size_told (g.D.Disk.view c.sync.new.self) (g.D.Disk.view c.len.new.self) c.in_ok-size.ensures.passed (c.in_ok-sync.ensures.passed.told told) ∙ c.sync.ensures.size
+
+pub returns-clause-opened : goal.returns-clause-opened
+returns-clause-opened g c place found is told =
+    let here = c.in_ok-sync.ensures.passed.told told in
+    let there = c.in_ok-size.ensures.passed.told here in
+    let bytes = c.in_ok-size.ensures.passed.bytes here ∙ c.in_ok-sync.ensures.passed.bytes told in
+    let head : c.read.new.into ≡ range (g.D.Disk.view c.args.disk.now).bytes 0 32 = c.in_ok-read.ensures.ok there ∙ ap (λ (b : List ℕ). range b 0 32) bytes in
+    sym (header_gate (g.D.Disk.view c.args.disk.now).bytes c.read.new.into head) ∙ c.if-bytes-ne1.false

@@ -1,9 +1,10 @@
-use Rattle.std.proofs.Common.{ℕ, ◌≡◌, inl, inr, sym, ◌∙◌, subst, arith}
+use Rattle.std.proofs.Common.{ℕ, ◌+◌, ◌≡◌, List, inl, inr, sym, ◌∙◌, subst, arith}
 use Rattle.std.proofs.lemmas.Result.{err_from_is_err_and, IfOk-weaker}
 use Rattle.sg_disk.specs.StandsFor.{journal_of}
 use Rattle.sg_disk.specs.declared.places.TheConstants.{OPEN_CALLS}
-use Rattle.sg_disk.specs.Runs.{Ran}
-use Rattle.sg_disk.proofs.Moments.{unchanged, unchanged_joined}
+use Rattle.sg_disk.specs.View.{Only}
+use Rattle.sg_disk.specs.Runs.{Ran, Quiet}
+use Rattle.sg_disk.proofs.Moments.{unchanged, unchanged_joined, quiet_one, quiet_joined, quiet_fewer}
 use Rattle.sg_journal.specs.declared.fault.OpenFault.TheVariants.{Damaged}
 use Rattle.sg_journal.specs.declared.journal.Journal.{Journal}
 use Rattle.sg_journal.specs.declared.reading.TheConstants.{PIECES}
@@ -47,3 +48,19 @@ returns-clause-undamaged g c r told stands epoch place found is =
 
 pub returns-clause-ran : goal.returns-clause-ran
 returns-clause-ran g c = always_ok c.gather.result (Ran OPEN_CALLS (g.D.Disk.view c.args.disk.now) (g.D.Disk.view c.read_records.new.disk)) (opening_ran (g.D.Disk.view c.args.disk.now) (g.D.Disk.view c.sync.new.self) (g.D.Disk.view c.read_records.new.disk) PIECES (omega arith) c.in_ok-sync.ensures.passed c.in_ok-entries.ensures.quiet)
+
+pub returns-clause-stable : goal.returns-clause-stable
+returns-clause-stable g c =
+    let v = g.D.Disk.view c.args.disk.now in
+    let u = g.D.Disk.view c.sync.new.self in
+    let w = g.D.Disk.view c.read_records.new.disk in
+    always_ok c.gather.result (v.told → Only w.bytes w) (λ told.
+    let same : w.bytes ≡ v.bytes = c.in_ok-entries.ensures.quiet.bytes (c.in_ok-sync.ensures.passed.told told) ∙ c.in_ok-sync.ensures.passed.bytes told in
+    subst (λ (b : List ℕ). Only b w) (sym same) (opening_only v u w PIECES told c.in_ok-sync.ensures.durable c.in_ok-entries.ensures.quiet))
+
+pub returns-clause-quiet : goal.returns-clause-quiet
+returns-clause-quiet g c =
+    let v = g.D.Disk.view c.args.disk.now in
+    let u = g.D.Disk.view c.sync.new.self in
+    let w = g.D.Disk.view c.read_records.new.disk in
+    always_ok c.gather.result (Quiet OPEN_CALLS v w) (quiet_fewer (1 + PIECES) OPEN_CALLS v w (omega arith) (quiet_joined 1 PIECES v u w (quiet_one v u c.in_ok-sync.ensures.passed c.sync.ensures.size) c.in_ok-entries.ensures.quiet))

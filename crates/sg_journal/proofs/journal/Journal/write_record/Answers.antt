@@ -1,4 +1,5 @@
-use Rattle.std.proofs.Common.{ℕ, length, refl, ◌∙◌, ap, inl}
+use Rattle.std.proofs.Common.{ℕ, List, length, refl, sym, ◌∙◌, ap, subst, inl}
+use Rattle.sg_disk.specs.View.{Only}
 use Rattle.sg_disk.specs.Contents.{played}
 use Rattle.sg_disk.specs.StandsFor.{fields, StandsFor, Either}
 use Rattle.sg_disk.proofs.Moments.{weaker}
@@ -132,3 +133,9 @@ returns-clause-within g c =
       durable = c.in_ok-write_synced.ensures.durable;
       tells = c.in_ok-write_synced.ensures.ran.told;
     }) c.write_synced-2.ensures.within
+
+pub returns-clause-stable : goal.returns-clause-stable
+returns-clause-stable g c told =
+    let w = g.D.Disk.view c.write_synced-2.new.disk in
+    let here = c.in_ok-write_synced.ensures.ran.told told in
+    subst (λ (b : List ℕ). Only b w) (sym (c.in_ok-write_synced-2.ensures.written here)) (c.in_ok-write_synced-2.ensures.durable here)

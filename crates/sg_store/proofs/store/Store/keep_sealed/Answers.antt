@@ -5,6 +5,7 @@ use Rattle.std.proofs.lemmas.List.Sums.{length-filter, count_by-le-length}
 use Rattle.sg_base.specs.declared.file.Listed.{Listed}
 use Rattle.sg_placing.specs.Placing.{same_file, IsPlaced}
 use Rattle.sg_placing.specs.declared.placed.Placed.{Placed}
+use Rattle.sg_store.proofs.DistinctLemmas.{distinct_fewer}
 use Rattle.sg_store.proofs.store.Store.keep_sealed.Goals as goal
 
 pub invariant_of-self : goal.invariant_of-self
@@ -22,4 +23,6 @@ invariant_of-self c =
       half_placed = s.half_placed;
       half_count = s.half_count;
       half_few = λ h is. omega (arith, fewer, s.half_few h is);
+      ascending = s.ascending;
+      distinct = distinct_fewer s.current s.staged c.keep.new.self s.half test c.keep.ensures s.distinct;
     }

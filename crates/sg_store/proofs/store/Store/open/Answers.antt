@@ -1,7 +1,9 @@
 use Rattle.std.proofs.Common.{◌≡◌, ℕ, List, Option, is_some, ◌∙◌, sym, ap}
 use Rattle.std.proofs.lemmas.Result.{err_from_is_err_and}
 use Rattle.sg_disk.proofs.Moments.{quiet_only, weaker, unchanged_joined, ran_none}
+use Rattle.sg_disk.proofs.Keeping.{keeps_unchanged}
 use Rattle.sg_disk.proofs.Standing.{between_read}
+use Rattle.sg_disk.specs.declared.places.TheConstants.{JOURNAL, JOURNAL_LEN}
 use Rattle.sg_disk.specs.StandsFor.{StandsForOne, Two}
 use Rattle.sg_slots.specs.Slots.{head_at, files_at, spare_at, opposite, head_number, head_text}
 use Rattle.sg_slots.specs.declared.slots.Head.{Head}
@@ -84,3 +86,22 @@ returns-in_err-slots-clause-undamaged g c p told stands place found is =
     let same = handed_on SlotPair Store c.from_residual-in_err-slots.result q.0 c.in_err-slots.field-0.0 (Damaged place found) q.1 q.2 is in
     let h = c.in_ok-header.ensures in
     slots_not_damaged p (g.D.Disk.view c.args.disk.now).bytes (g.D.Disk.view c.read_header.new.disk).bytes c.in_ok-header.header.room (record { place = place; found = found }) stands (h.bytes told) (h.room told) (c.in_err-slots.ensures.damaged place found same (h.ran.told told))
+
+pub returns-in_err-header-clause-damaged_open : goal.returns-in_err-header-clause-damaged_open
+returns-in_err-header-clause-damaged_open g c place found is told =
+    let q = err_from_is_err_and c.from_residual-in_err-header.result c.from_residual-in_err-header.ensures.1 in
+    let same = handed_on Format Store c.from_residual-in_err-header.result q.0 c.in_err-header.field-0.0 (Damaged place found) q.1 q.2 is in
+    c.in_err-header.ensures.opened place found same told
+
+pub returns-in_err-header-clause-damaged_long : goal.returns-in_err-header-clause-damaged_long
+returns-in_err-header-clause-damaged_long g c place found is =
+    let q = err_from_is_err_and c.from_residual-in_err-header.result c.from_residual-in_err-header.ensures.1 in
+    let same = handed_on Format Store c.from_residual-in_err-header.result q.0 c.in_err-header.field-0.0 (Damaged place found) q.1 q.2 is in
+    c.in_err-header.ensures.long place found same
+
+pub returns-clause-keeps : goal.returns-clause-keeps
+returns-clause-keeps g c =
+    let v = g.D.Disk.view c.args.disk.now in
+    let m = g.D.Disk.view c.read_header.new.disk in
+    let w = g.D.Disk.view c.read_slots.new.disk in
+    keeps_unchanged JOURNAL JOURNAL_LEN v w (unchanged_joined v m w c.in_ok-header.ensures.any_moment c.in_ok-slots.ensures.any_moment) (λ told. c.in_ok-slots.ensures.quiet.bytes (c.in_ok-header.ensures.ran.told told) ∙ c.in_ok-header.ensures.bytes told)

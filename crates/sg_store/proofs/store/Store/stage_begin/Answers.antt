@@ -4,6 +4,7 @@ use Rattle.sg_placing.specs.declared.placed.Placed.{Placed}
 use Rattle.sg_store.specs.declared.faults.NoSpace.{NoSpace}
 use Rattle.sg_store.specs.Ready.{taken_files}
 use Rattle.sg_store.proofs.StageLemmas.{refused_gap, begun_in_gap, taken_idle}
+use Rattle.sg_store.proofs.DistinctLemmas.{distinct_begun}
 use Rattle.sg_store.proofs.store.Store.stage_begin.Goals as goal
 
 pub returns-in_default-clause-refused : goal.returns-in_default-clause-refused
@@ -22,3 +23,8 @@ returns-clause-staged c bytes has =
     let s = c.args.self.now in
     let lists : c.as_slice-current.result.now ++ c.as_slice-staged.result.now ≡ taken_files s = taken_idle s c.as_slice-current.result.now c.as_slice-staged.result.now c.as_slice-current.ensures c.as_slice-staged.ensures c.requires.idle in
     begun_in_gap s _ bytes s.room _ refl refl c.requires.idle refl refl c.new.ensures (subst (λ (l : List Placed). IsFree s.room l c.args.file.now.length c.in-Some.place) lists c.in-Some.ensures.found.free) has
+
+pub invariant_of-self-2-clause-distinct : goal.invariant_of-self-2-clause-distinct
+invariant_of-self-2-clause-distinct c =
+    let s = c.args.self.now in
+    distinct_begun s.current s.staged s.half (record { file = c.args.file.now; place = c.in-Some.place }) c.requires.idle c.requires.new s.distinct

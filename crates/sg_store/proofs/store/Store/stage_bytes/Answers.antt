@@ -1,7 +1,13 @@
 use Rattle.std.proofs.Common.{◌≡◌, inl, ℕ, ◌+◌, ◌≤◌, Option, IfSome, length, subst, arith}
 use Rattle.sg_disk.specs.View.{Torn, Written, Passed}
+use Rattle.sg_disk.specs.Contents.{Contents}
+use Rattle.sg_disk.specs.StandsFor.{Settled}
 use Rattle.sg_disk.proofs.Writes.{one_kept, within_write, within_write_failed}
+use Rattle.sg_disk.proofs.Keeping.{keeps_within}
+use Rattle.sg_disk.proofs.Standing.{settled_leaves}
 use Rattle.sg_disk.specs.declared.places.TheConstants.{DATA, JOURNAL, JOURNAL_LEN}
+use Rattle.sg_store.specs.Ready.{IsReady}
+use Rattle.sg_store.proofs.FreshLemmas.{on_err}
 use Rattle.sg_store.specs.declared.store.Half.{Half}
 use Rattle.sg_store.proofs.StageLemmas.{Writes, some_half, staged_within, staged_leaves, ready_after, sealed_after, half_after}
 use Rattle.sg_store.proofs.store.Store.stage_bytes.Goals as goal
@@ -123,3 +129,16 @@ returns-clause-journal g c told one =
     let placed = s.half_placed half found.1 in
     let inside : c.next_place-place.result + length bs ≤ v.size = omega (arith, at, c.requires.disk, placed.inside.1, found.2) in
     one_kept DATA s.room JOURNAL JOURNAL_LEN v w told (inl (omega arith)) one (staged_within v w s half c.next_place-place.result (length bs) at placed found.2 (within_write c.next_place-place.result bs v w inside c.in_ok-write_at.ensures.passed))
+
+pub returns-in_err-write_at-clause-keeps : goal.returns-in_err-write_at-clause-keeps
+returns-in_err-write_at-clause-keeps g c place n below = keeps_within DATA c.args.self.now.room place n (g.D.Disk.view c.args.disk.now) (g.D.Disk.view c.write_at.new.self) (inl below) (returns-in_err-write_at-clause-within g c)
+
+pub returns-clause-keeps : goal.returns-clause-keeps
+returns-clause-keeps g c place n below = keeps_within DATA c.args.self.now.room place n (g.D.Disk.view c.args.disk.now) (g.D.Disk.view c.write_at.new.self) (inl below) (returns-clause-within g c)
+
+pub returns-in_err-write_at-clause-settled : goal.returns-in_err-write_at-clause-settled
+returns-in_err-write_at-clause-settled g c =
+    let v = g.D.Disk.view c.args.disk.now in
+    let w = g.D.Disk.view c.write_at.new.self in
+    on_err c.from_residual.result ((p : Contents) → IsReady v c.args.self.now p → Settled w p) (λ p ready.
+    settled_leaves v w p ready.settled.told (returns-in_err-write_at-clause-any_moment g c p ready) c.in_err-write_at.ensures.failed.told)

@@ -1,4 +1,4 @@
-use Rattle.std.proofs.Common.{◌≡◌, inl, inr, ℕ, ◌+◌, ◌≤◌, ◌==◌, not, All, Bool, false, List, [], ◌∷◌, length, ◌∙◌, ◌-◌, ◌*◌, ap, subst, sym, arith, if◌then◌else◌}
+use Rattle.std.proofs.Common.{◌≡◌, inl, inr, ℕ, ◌+◌, ◌≤◌, ◌==◌, not, All, Bool, false, List, [], ◌∷◌, length, map, ◌∙◌, ◌-◌, ◌*◌, ap, subst, sym, arith, if◌then◌else◌}
 use Rattle.sg_disk.specs.View.{put, Only}
 use Rattle.sg_disk.specs.Runs.{LeavesOnly, Within}
 use Rattle.sg_disk.specs.Contents.{switched}
@@ -6,14 +6,17 @@ use Rattle.sg_disk.specs.StandsFor.{StandsFor, Either, StandsForOne, Two}
 use Rattle.sg_disk.specs.declared.places.TheConstants.{FIELDS, JOURNAL, JOURNAL_LEN, SLOT_LEN, SLOT_ZERO, TABLE, TABLE_LEN, TEXT}
 use Rattle.sg_disk.proofs.Moments.{weaker, joined}
 use Rattle.sg_disk.proofs.Writes.{within_wider, within_joined, one_kept}
+use Rattle.sg_disk.proofs.Keeping.{keeps_within}
 use Rattle.sg_disk.proofs.Standing.{between_after, either_one}
-use Rattle.sg_placing.specs.Placing.{IsPlaced}
+use Rattle.sg_placing.specs.Placing.{IsPlaced, AreAscending}
+use Rattle.sg_placing.specs.declared.placed.Placed.{Placed}
 use Rattle.sg_slots.specs.Bytes.{head_fields}
 use Rattle.sg_slots.specs.Slots.{slot_place, opposite}
-use Rattle.sg_store.specs.Ready.{whole_files, stored_files}
+use Rattle.sg_store.specs.Ready.{whole_files, chosen, stored_files}
 use Rattle.sg_slots.specs.declared.slots.Slot.{Slot}
 use Rattle.sg_slots.proofs.SlotLemmas.{place_high}
-use Rattle.sg_store.proofs.ChoiceLemmas.{chosen_placed}
+use Rattle.sg_store.proofs.ChoiceLemmas.{chosen_placed, chosen_files}
+use Rattle.sg_store.proofs.DistinctLemmas.{ascending_files}
 use Rattle.sg_store.proofs.SwitchLemmas.{place_low, closing, closed_after, filling, opening}
 use Rattle.sg_store.proofs.FillLemmas.{Asks, TakesOver, whole_placed, filled_by, ready_switched}
 use Rattle.sg_store.proofs.store.Store.switch.Goals as goal
@@ -356,3 +359,25 @@ returns-clause-journal g c told one =
     let at_2 : c.place-2.result ≡ slot_place s.spare = c.place-2.ensures ∙ ap slot_place c.gather.ensures.snapshot.spare in
     let open_in : Within (slot_place s.spare) 1 w x = subst (λ (k : ℕ). Within k 1 w x) at_2 c.write_synced.ensures.within in
     one_kept SLOT_ZERO (2 * SLOT_LEN) JOURNAL JOURNAL_LEN u x told (inr (omega arith)) one (within_joined SLOT_ZERO (2 * SLOT_LEN) u w x (λ told. c.in_ok-fill_slot.ensures.ran.told (c.in_ok-close_gate.ensures.ran.told told)) second (within_wider (slot_place s.spare) 1 SLOT_ZERO (2 * SLOT_LEN) w x (omega (arith, low)) (omega (arith, high)) open_in))
+
+pub take_over-requires-clause-ascending : goal.take_over-requires-clause-ascending
+take_over-requires-clause-ascending g c =
+    let files = c.args.files.now in
+    let whole = whole_files c.args.self.now in
+    subst AreAscending (sym c.gather.ensures.next) (ascending_files (map (chosen whole) files) files (chosen_files whole files c.requires.held) c.requires.ascending)
+
+pub returns-clause-files : goal.returns-clause-files
+returns-clause-files g c =
+    ap (λ (l : List Placed). map (λ p. p.file) l) (c.take_over.ensures.current ∙ c.gather.ensures.next) ∙ chosen_files (whole_files c.args.self.now) c.args.files.now c.requires.held
+
+pub returns-in_err-close_gate-clause-keeps : goal.returns-in_err-close_gate-clause-keeps
+returns-in_err-close_gate-clause-keeps g c place n clear = keeps_within SLOT_ZERO (2 * SLOT_LEN) place n (g.D.Disk.view c.args.disk.now) (g.D.Disk.view c.close_gate.new.disk) clear (returns-in_err-close_gate-clause-within g c)
+
+pub returns-in_err-fill_slot-clause-keeps : goal.returns-in_err-fill_slot-clause-keeps
+returns-in_err-fill_slot-clause-keeps g c place n clear = keeps_within SLOT_ZERO (2 * SLOT_LEN) place n (g.D.Disk.view c.args.disk.now) (g.D.Disk.view c.fill_slot.new.disk) clear (returns-in_err-fill_slot-clause-within g c)
+
+pub returns-in_err-write_synced-clause-keeps : goal.returns-in_err-write_synced-clause-keeps
+returns-in_err-write_synced-clause-keeps g c place n clear = keeps_within SLOT_ZERO (2 * SLOT_LEN) place n (g.D.Disk.view c.args.disk.now) (g.D.Disk.view c.write_synced.new.disk) clear (returns-in_err-write_synced-clause-within g c)
+
+pub returns-clause-keeps : goal.returns-clause-keeps
+returns-clause-keeps g c place n clear = keeps_within SLOT_ZERO (2 * SLOT_LEN) place n (g.D.Disk.view c.args.disk.now) (g.D.Disk.view c.write_synced.new.disk) clear (returns-clause-within g c)
