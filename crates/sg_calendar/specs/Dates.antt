@@ -37,7 +37,8 @@ is_same_day base day = (civil day).day == (civil base).day
 -- equal weekdays, and both the same one of their month's, from the first to the fifth
 abbrev pub is_same_weekday : ℕ → ℕ → Bool
 is_same_weekday base day =
-    (weekday (pos day) == weekday (pos base)) && (((civil day).day - 1) / 7 == ((civil base).day - 1) / 7)
+    (weekday (pos day) == weekday (pos base))
+    && (((civil day).day - 1) / 7 == ((civil base).day - 1) / 7)
 
 -- equal months, and equal days of the month
 abbrev pub is_anniversary : ℕ → ℕ → Bool
@@ -56,7 +57,8 @@ fits_period Year days base day = is_anniversary base day
 -- `every`-th of them from the base's
 abbrev pub fits_unit : Unit → ℕ → ℕ → ℕ → ℕ → Bool
 fits_unit unit every days base day =
-    fits_period unit days base day && is_multiple_above every (period_of unit base) (period_of unit day)
+    fits_period unit days base day
+    && is_multiple_above every (period_of unit base) (period_of unit day)
 
 -- a date by a unit, from the base on
 abbrev pub is_unit_date : Unit → ℕ → ℕ → ℕ → ℕ → Bool

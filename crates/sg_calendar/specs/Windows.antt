@@ -22,7 +22,8 @@ window_or (Some e) w = e
 -- the window of a date: the date's own, or else that of its weekday, or else the daypart's
 abbrev pub window_at : DaypartRow → ℤ → Window
 window_at d date =
-    window_or (date_exception d.dates date) (window_or (exception_of d.exceptions (weekday date)) d.window)
+    window_or (date_exception d.dates date)
+    (window_or (exception_of d.exceptions (weekday date)) d.window)
 
 -- where a window ends, in seconds from the midnight that begins its date; one that doesn't end after its
 -- start ends on the next day

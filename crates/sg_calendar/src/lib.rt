@@ -4,7 +4,8 @@
 //! Local seconds are counted from the local midnight that begins 1970-01-01, dates are day numbers with
 //! day 0 on 1970-01-01, and weekdays go from 1 (Monday) to 7 (Sunday). Callers see a zone as what its rule
 //! says (`specs/Zone.antt`). Dates and starts are defined in `specs/Dates.antt` over the civil dates of
-//! `specs/Civil.antt`, and windows in `specs/Windows.antt`.
+//! `specs/Civil.antt`, and windows in `specs/Windows.antt`. `Nearest`, `Turns` and `ZoneKind` are for private
+//! clauses.
 #![tactic(auto)]
 
 pub use dates::{next_date, on_date};

@@ -1,5 +1,5 @@
 //! The latest date of a repeat up to a day, and the next one from a day on. Both go through the turns of the
-//! repeat (specs/Turns.antt), from the one that division gives, past those without a date.
+//! repeat (`specs/Turns.antt`), from the one that division gives, past those without a date.
 
 ghost use Rattle.std.specs.Prelude.{◌≡◌, ℕ, ◌+◌, ◌*◌, ◌<◌, ◌≤◌, pos, ◌<ℤ◌};
 ghost use Rattle.sg_calendar.specs.Dates.{period_of, is_unit_date, is_repeat_date};
@@ -46,7 +46,8 @@ pub(crate) fn next_repeat_date(repeat: &Repeat, base: u32, first: u32) -> Option
 fn latest_by_unit(repeat: &Repeat, base: u32, last: u32) -> Option<u32>
     requires order { base ≤ last }
     requires high { last ≤ LAST_ASKED }
-    ensures { IsLatest (is_unit_date repeat.now.unit repeat.now.every repeat.now.days base) last result }
+    ensures { let r = repeat.now in
+        IsLatest (is_unit_date r.unit r.every r.days base) last result }
 {
     let mut left = turn_at(repeat, base, last) + 1;
     while left > 0 {
@@ -63,7 +64,8 @@ fn latest_by_unit(repeat: &Repeat, base: u32, last: u32) -> Option<u32>
 fn next_by_unit(repeat: &Repeat, base: u32, first: u32) -> Option<u32>
     requires order { base ≤ first }
     requires high { first < LAST_ASKED }
-    ensures { IsNext (is_unit_date repeat.now.unit repeat.now.every repeat.now.days base) first LAST_ASKED result }
+    ensures { let r = repeat.now in
+        IsNext (is_unit_date r.unit r.every r.days base) first LAST_ASKED result }
 {
     for turn in turn_at(repeat, base, first)..turn_at(repeat, base, LAST_ASKED) + 1 {
         match next_in(repeat, base, first, turn) {

@@ -56,7 +56,9 @@ impl Zone {
     /// side, and with `BadZone` where a text has not 1 to 64 bytes, or a byte outside 0x20..=0x7E, or isn't
     /// a POSIX TZ text. A rule needs no memory, so `Memory` never comes.
     pub fn read(rule: &ZoneRule) -> Result<Zone, ZoneFault>
-        ensures { MatchResult result (λ z. zone_of rule.now ≡ Ok z) (λ e. zone_of rule.now ≡ Err e) }
+        ensures { MatchResult result
+            (λ z. zone_of rule.now ≡ Ok z)
+            (λ e. zone_of rule.now ≡ Err e) }
     {
         match rule {
             ZoneRule::Offset(minutes) => read_offset(*minutes),
@@ -84,7 +86,9 @@ ghost use Rattle.sg_base.specs.declared.zone.ZoneRule.TheVariants.{Offset as Off
 ghost use Rattle.jiff_tz.specs.PosixText.{tz_view};
 
 fn read_offset(minutes: i32) -> Result<Zone, ZoneFault>
-    ensures { MatchResult result (λ z. zone_of (OffsetRule minutes) ≡ Ok z) (λ e. zone_of (OffsetRule minutes) ≡ Err e) }
+    ensures { MatchResult result
+        (λ z. zone_of (OffsetRule minutes) ≡ Ok z)
+        (λ e. zone_of (OffsetRule minutes) ≡ Err e) }
 {
     if minutes < -MAX_OFFSET || minutes > MAX_OFFSET {
         return Err(ZoneFault::OffsetRange(minutes));
@@ -95,7 +99,9 @@ fn read_offset(minutes: i32) -> Result<Zone, ZoneFault>
 }
 
 fn read_text(text: &[u8]) -> Result<Zone, ZoneFault>
-    ensures { MatchResult result (λ z. zone_of_text text.now ≡ Ok z) (λ e. zone_of_text text.now ≡ Err e) }
+    ensures { MatchResult result
+        (λ z. zone_of_text text.now ≡ Ok z)
+        (λ e. zone_of_text text.now ≡ Err e) }
 {
     if !is_zone_text(text) {
         return Err(ZoneFault::BadZone);

@@ -108,8 +108,8 @@ fn later_by(t: LocalSec, length: u32) -> LocalSec
 fn next_of_windows(event: &Event, daypart: &Daypart, t: LocalSec) -> LocalSec
     requires named { IsNamed event.now.when }
     requires second { IsAskable t }
-    ensures { IsFirstAfter
-        (λ x. (date : ℤ) × IsWindowEdge event.now.when event.now.repeat daypart.now date x) t result }
+    ensures { let e = event.now in IsFirstAfter
+        (λ x. (date : ℤ) × IsWindowEdge e.when e.repeat daypart.now date x) t result }
 {
     let today = day_of(t);
     let early = next_of_date(event, daypart, today, t);
