@@ -8,8 +8,8 @@
 //! leaves (`any_moment`), when it fails (`broke`; of an opening `ended`), and how many calls at least it makes where it
 //! passes (`ran`).
 //!
-//! What the header and the two slots say, and what an opening refuses, is the part of `sg_slots`; where a file goes is the
-//! part of `sg_placing`. All memory is taken by `Store::open`.
+//! What the header and the two slots say, and what an opening refuses, belongs to `sg_slots`; where a file goes, to
+//! `sg_placing`. All memory is taken by `Store::open`. The tests stand in `sg_store_tests`.
 #![tactic(auto)]
 
 mod choice;
@@ -25,6 +25,3 @@ pub use faults::{DigestDiffers, NoSpace, SwitchFault};
 pub use fresh::format;
 pub use sg_slots::{Format, OpenFault};
 pub use store::Store;
-
-#[cfg(test)]
-mod tests;

@@ -14,6 +14,7 @@ mod steps;
 mod stop;
 
 pub use call::Call;
+pub use lawful::{may_begin, may_bring, may_seal, may_switch};
 pub use runs::run;
 pub use stop::Stop;
 

@@ -1,5 +1,6 @@
-// What the faults say of themselves.
-use crate::{DigestDiffers, NoSpace, OpenFault, SwitchFault};
+//! What the faults say of themselves.
+
+use sg_store::{DigestDiffers, NoSpace, OpenFault, SwitchFault};
 use std::test::Fail;
 
 #[test]
