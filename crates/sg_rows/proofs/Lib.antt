@@ -1,6 +1,9 @@
 pub mod Compact
 pub mod CompactSound
 pub mod RowLemmas
+pub mod BindLemmas
+pub mod FormLemmas
+pub mod EventLemmas
 pub mod PartLemmas
 pub mod OrderLemmas
 pub mod DaypartLemmas
@@ -9,3 +12,4 @@ pub mod DayLemmas
 pub mod SoundRows
 pub mod AgainRows
 pub mod AgainSchedules
+pub mod ReadSound

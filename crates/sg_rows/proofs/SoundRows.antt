@@ -6,7 +6,7 @@ use Rattle.std.proofs.lemmas.Str.{IsUtf8-from_ascii}
 use Rattle.std.proofs.lemmas.Str.Ascii.{IsAscii-nil, IsAscii-cons}
 use Rattle.std.specs.Prelude.{if◌then◌else◌, IsAscii, Option, Some, None, IfSome}
 use Rattle.std.specs.List.{AllByRecursion}
-use Rattle.serde_json.specs.Data.{string}
+use Rattle.serde_json.specs.Data.{string, object}
 use Rattle.hex.specs.Hex.{encode_lower, lower_digits}
 use Rattle.hex.proofs.HexLemmas.{IsAscii-encode_with}
 use Rattle.sg_base.specs.declared.ids.LayoutId.{LayoutId}
@@ -27,11 +27,14 @@ use Rattle.sg_base.specs.Layout.{LayoutRow}
 use Rattle.sg_base.specs.Daypart.{DaypartRow}
 use Rattle.sg_base.specs.Repeat.{RepeatRow}
 use Rattle.sg_base.specs.Event.{EventValue}
+use Rattle.sg_rows.specs.declared.form.RowForm.{RowForm}
+use Rattle.sg_rows.specs.declared.form.RowForm.TheVariants.{Version1, Version2, Edit}
+use Rattle.sg_rows.specs.Forms.{AllowsLayer}
 use Rattle.sg_rows.specs.Zone.{IsZone}
-use Rattle.sg_rows.specs.Rows.{IsId, IsItem, IsRegion, IsLayoutRow, IsLayoutId, IsCampaignRow, IsException, IsDaypartRow, IsTarget, IsWhen, IsRepeatRow, IsEventRow, IsListed}
-use Rattle.sg_rows.specs.Text.{whole, item_json, region_json, layout_json, layout_id_json, campaign_json, exception_json, daypart_json, weekdays, unit_text, until_json, repeat_json, target_json, when_json, event_json, file_json, zone_json}
+use Rattle.sg_rows.specs.Rows.{IsId, IsItem, IsRegion, IsLayoutRow, IsLayoutId, IsCampaignRow, IsException, IsDate, IsDaypartRow, IsTarget, IsWhen, IsRepeatRow, IsEventRow, IsListed}
+use Rattle.sg_rows.specs.Text.{whole, item_json, region_json, layout_json, layout_id_json, campaign_json, exception_json, date_json, undated_json, dated_json, daypart_json, weekdays, unit_text, until_json, repeat_json, target_json, when_json, last_members, flat_members, layered_members, event_json, file_json, zone_json}
 use Rattle.sg_rows.proofs.ZoneLemmas.{minutes_of_zone, text_of_zone}
-use Rattle.sg_rows.proofs.CompactSound.{Sound, Sound-null, Sound-boolean, Sound-unsigned, Sound-of_integer, Sound-string, Sound-literal, Sound-list, Sound-object}
+use Rattle.sg_rows.proofs.CompactSound.{Sound, AreMembersSound, Sound-null, Sound-boolean, Sound-unsigned, Sound-of_integer, Sound-string, Sound-literal, Sound-list, Sound-object}
 
 number_sound : {n : ℕ} (k : ℕ) → k < 2 ^ 32 → Sound n (whole k)
 number_sound k h = Sound-unsigned k (omega arith)
@@ -58,9 +61,22 @@ exception_sound : (e : ℕ × Window) → IsException e → Sound 3 (exception_j
 exception_sound e h =
     Sound-object refl (number_sound _ (omega (arith, h.day)), (number_sound _ h.window.end, (number_sound _ h.window.start, tt)))
 
-pub daypart_sound : (d : DaypartRow) → IsDaypartRow d → Sound 5 (daypart_json d)
-daypart_sound d h =
+date_sound : (e : ℕ × Window) → IsDate e → Sound 3 (date_json e)
+date_sound e h = Sound-object refl (number_sound _ h.date, (number_sound _ h.window.end, (number_sound _ h.window.start, tt)))
+
+pub undated_sound : (form : RowForm) (d : DaypartRow) → IsDaypartRow form d → Sound 5 (undated_json d)
+undated_sound form d h =
     Sound-object refl (number_sound _ h.window.end, (Sound-list exception_sound d.exceptions h.exceptions, (id_sound _ h.id, (number_sound _ h.window.start, tt))))
+
+dated_sound : (form : RowForm) (d : DaypartRow) → IsDaypartRow form d → Sound 5 (dated_json d)
+dated_sound form d h =
+    Sound-object refl
+    (Sound-list date_sound d.dates h.dates, (number_sound _ h.window.end, (Sound-list exception_sound d.exceptions h.exceptions, (id_sound _ h.id, (number_sound _ h.window.start, tt)))))
+
+pub daypart_sound : (form : RowForm) (d : DaypartRow) → IsDaypartRow form d → Sound 5 (daypart_json form d)
+daypart_sound Version1 d h = undated_sound Version1 d h
+daypart_sound Version2 d h = dated_sound Version2 d h
+daypart_sound Edit d h = dated_sound Edit d h
 
 abbrev pub IsSmall : ℕ → Type 0
 IsSmall n = n < 2 ^ 32
@@ -106,21 +122,29 @@ when_sound Always h = Sound-object refl (Sound-boolean true, tt)
 when_sound (Custom from to) h = Sound-object refl (number_sound _ h.0, (number_sound _ h.1, tt))
 when_sound (Named daypart date) h = Sound-object refl (number_sound _ h.1, (id_sound _ h.0, tt))
 
-pub event_sound : (e : EventValue) → IsEventRow e → Sound 5 (event_json e)
-event_sound e h =
-    Sound-object refl (
-      id_sound _ h.id,
-      (
-        number_sound _ h.order,
-        (
-          number_sound _ h.priority,
-          (
-            repeat_sound e.repeat h.repeat,
-            (number_sound _ h.share, (target_sound e.target h.target, (when_sound e.when h.when, tt))),
-          ),
-        ),
-      ),
-    )
+-- the members of an event behind its layer
+pub last_sound : (form : RowForm) (e : EventValue) → IsEventRow form e → AreMembersSound 4 (last_members e)
+last_sound form e h = (
+  number_sound _ h.order,
+  (
+    number_sound _ h.priority,
+    (repeat_sound e.repeat h.repeat, (number_sound _ h.share, (target_sound e.target h.target, (when_sound e.when h.when, tt)))),
+  ),
+)
+
+pub layer_sound : (form : RowForm) (layer : ℕ) → AllowsLayer form layer → Sound 4 (whole layer)
+layer_sound form layer h = number_sound layer (omega (arith, h))
+
+flat_sound : (form : RowForm) (e : EventValue) → IsEventRow form e → Sound 5 (object (flat_members e))
+flat_sound form e h = Sound-object refl (id_sound _ h.id, last_sound form e h)
+
+layered_sound : (form : RowForm) (e : EventValue) → IsEventRow form e → Sound 5 (object (layered_members e))
+layered_sound form e h = Sound-object refl (id_sound _ h.id, (layer_sound form e.layer h.layer, last_sound form e h))
+
+pub event_sound : (form : RowForm) (e : EventValue) → IsEventRow form e → Sound 5 (event_json form e)
+event_sound Version1 e h = flat_sound Version1 e h
+event_sound Version2 e h = layered_sound Version2 e h
+event_sound Edit e h = layered_sound Edit e h
 
 are_all_ascii : List ℕ → Bool
 are_all_ascii [] = true

@@ -3,6 +3,7 @@ pub mod Rows
 pub mod Text
 pub mod Faults
 pub mod Parts
+pub mod Forms
 pub mod Order
 pub mod Reading
 pub mod Ids

@@ -11,7 +11,7 @@ use Rattle.sg_base.specs.declared.file.Listed.{Listed}
 use Rattle.sg_base.specs.declared.campaign.Campaign.{Campaign as CampaignRow}
 use Rattle.sg_base.specs.declared.daypart.Window.{Window}
 use Rattle.sg_base.specs.declared.repeat.Unit.{Unit as RepeatUnit}
-use Rattle.sg_base.specs.declared.repeat.Unit.TheVariants.{Hour, Day, Week, Month, Year}
+use Rattle.sg_base.specs.declared.repeat.Unit.TheVariants.{Hour, Day, Week, Month, MonthWeekday, Year}
 use Rattle.sg_base.specs.declared.event.When.{When}
 use Rattle.sg_base.specs.declared.event.When.TheVariants.{Always, Custom, Named}
 use Rattle.sg_base.specs.declared.event.Target.{Target}
@@ -25,8 +25,8 @@ use Rattle.sg_base.specs.Repeat.{RepeatRow, repeat_fault}
 use Rattle.sg_base.specs.Event.{EventValue, event_fault}
 use Rattle.sg_calendar.specs.Zone.{ZoneView, zone_of}
 use Rattle.sg_calendar.specs.declared.zone.ZoneFault.{ZoneFault}
-use Rattle.sg_rows.specs.declared.form.Form.{Form}
-use Rattle.sg_rows.specs.declared.form.Form.TheVariants.{Manifest, Edit}
+use Rattle.sg_rows.specs.declared.form.RowForm.{RowForm}
+use Rattle.sg_rows.specs.Forms.{with_new, new_member_at, event_members, is_later_daypart, is_later_event}
 use Rattle.sg_rows.specs.declared.fault.RowFault.{RowFault}
 use Rattle.sg_rows.specs.declared.fault.RowFault.TheVariants as fault
 use Rattle.sg_rows.specs.declared.fault.RowFault.TheVariants.{Shape, Later}
@@ -111,15 +111,24 @@ exception_at d = do
   window ← window_at d
   Ok (day, window)
 
--- exceptions may come in any order, and the daypart has them by weekday
-unfoldable pub daypart_at : Data → Result DaypartRow RowFault
-daypart_at d = do
-  now ← needs (not (has_member (codes "dates") d)) Later
-  form ← exactly 4 d
+unfoldable pub date_at : Data → Result (ℕ × Window) RowFault
+date_at d = do
+  form ← exactly 3 d
+  date ← member_at number_at (codes "date") d
+  window ← window_at d
+  Ok (date, window)
+
+-- exceptions and dates may come in any order, and the daypart has them by weekday and by date
+unfoldable pub daypart_at : RowForm → Data → Result DaypartRow RowFault
+daypart_at form d = do
+  now ← needs (not (is_later_daypart form d)) Later
+  all ← exactly (with_new form 4 (codes "dates") d) d
   id ← member_at id_at (codes "id") d
   window ← window_at d
   es ← member_at (list_at exception_at) (codes "exceptions") d
-  faultless fault.Daypart (daypart_fault window es []) (record { id = record { 0 = id }; window = window; exceptions = sorted_by (λ e. e.0) es; dates = [] })
+  ds ← new_member_at form (list_at date_at) [] (codes "dates") d
+  faultless fault.Daypart (daypart_fault window es ds)
+      (record { id = record { 0 = id }; window = window; exceptions = sorted_by (λ e. e.0) es; dates = sorted_by (λ e. e.0) ds })
 
 -- ---- repeats
 
@@ -145,7 +154,8 @@ unit_of name =
     else (if bytes_eq name (codes "day") then Some Day
     else (if bytes_eq name (codes "week") then Some Week
     else (if bytes_eq name (codes "month") then Some Month
-    else (if bytes_eq name (codes "year") then Some Year else None))))
+    else (if bytes_eq name (codes "month-weekday") then Some MonthWeekday
+    else (if bytes_eq name (codes "year") then Some Year else None)))))
 
 abbrev pub unit_at : Data → Result RepeatUnit RowFault
 unit_at d = text_at d >>= (λ name. wants (unit_of name) Shape)
@@ -159,13 +169,6 @@ repeat_at d = do
   unit ← member_at unit_at (codes "unit") d
   until ← member_at (nullable_at number_at) (codes "until") d
   Ok (record { unit = unit; every = every; days = days; until = until })
-
--- the unit of a later version
-abbrev pub is_later_unit : Data → Bool
-is_later_unit d = unwrap_or (option_map (λ name. bytes_eq name (codes "month-weekday")) (as_str d)) false
-
-abbrev pub is_later_repeat : Data → Bool
-is_later_repeat d = unwrap_or (option_map is_later_unit (get (codes "unit") d)) false
 
 -- ---- events
 
@@ -205,27 +208,20 @@ named_at d = do
 abbrev pub when_at : Data → Result When RowFault
 when_at d = if has_member (codes "always") d then always_at d else (if has_member (codes "from") d then custom_at d else named_at d)
 
-abbrev pub is_later_event : Data → Bool
-is_later_event d = unwrap_or (option_map is_later_repeat (get (codes "repeat") d)) false
-
--- in an edit an event also has `displays` and `groups`
-abbrev pub event_members : Form → ℕ
-event_members Manifest = 7
-event_members Edit = 9
-
--- the seven members of an event, in either form
-unfoldable pub parts_at : Form → Data → Result EventValue RowFault
+-- the members of an event that every form has, and its layer
+unfoldable pub parts_at : RowForm → Data → Result EventValue RowFault
 parts_at form d = do
-  now ← needs (not (is_later_event d)) Later
-  all ← exactly (event_members form) d
+  now ← needs (not (is_later_event form d)) Later
+  all ← exactly (with_new form (event_members form) (codes "layer") d) d
   id ← member_at id_at (codes "id") d
+  layer ← new_member_at form number_at 0 (codes "layer") d
   order ← member_at number_at (codes "order") d
   priority ← member_at number_at (codes "priority") d
   repeat ← member_at (nullable_at repeat_at) (codes "repeat") d
   share ← member_at number_at (codes "share") d
   target ← member_at target_at (codes "target") d
   w ← member_at when_at (codes "when") d
-  Ok (record { id = record { 0 = id }; layer = 0; target = target; when = w; repeat = repeat; order = order; priority = priority; share = share })
+  Ok (record { id = record { 0 = id }; layer = layer; target = target; when = w; repeat = repeat; order = order; priority = priority; share = share })
 
 -- the repeat's own fault
 abbrev pub made_repeat : Option RepeatRow → Result (Option RepeatRow) RowFault
@@ -234,12 +230,14 @@ made_repeat (Some r) = faultless fault.Repeat (repeat_fault r.unit r.every r.day
 
 -- the event's own fault, after its repeat's
 abbrev pub made_event : EventValue → Result EventValue RowFault
-made_event e = made_repeat e.repeat >>= (λ r. faultless fault.Event (event_fault e.layer e.target e.when r e.order e.priority e.share) (record { id = e.id; layer = e.layer; target = e.target; when = e.when; repeat = r; order = e.order; priority = e.priority; share = e.share }))
+made_event e = made_repeat e.repeat >>= (λ r.
+    faultless fault.Event (event_fault e.layer e.target e.when r e.order e.priority e.share)
+    (record { id = e.id; layer = e.layer; target = e.target; when = e.when; repeat = r; order = e.order; priority = e.priority; share = e.share }))
 
--- an event of a manifest
-unfoldable pub event_at : Data → Result EventValue RowFault
-event_at d = do
-  parts ← parts_at Manifest d
+-- an event by itself
+unfoldable pub event_at : RowForm → Data → Result EventValue RowFault
+event_at form d = do
+  parts ← parts_at form d
   made_event parts
 
 -- ---- zones

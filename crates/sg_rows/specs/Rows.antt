@@ -1,6 +1,6 @@
 -- When a row of a manifest is valid: its constructor accepts it, its ids are at least 1, and its numbers fit
 -- the types that hold them.
-use Rattle.std.specs.Prelude.{◌≡◌, ◌≢◌, ℕ, ◌^◌, ◌<◌, ◌≤◌, [], length, IfSome}
+use Rattle.std.specs.Prelude.{◌≡◌, ◌≢◌, ℕ, ◌^◌, ◌<◌, ◌≤◌, length, IfSome}
 use Rattle.std.specs.List.{AllByRecursion}
 use Rattle.hex.specs.Hex.{IsBytes}
 use Rattle.sg_base.specs.declared.ids.LayoutId.{LayoutId}
@@ -8,17 +8,18 @@ use Rattle.sg_base.specs.declared.layout.Item.{Item}
 use Rattle.sg_base.specs.declared.layout.Region.{Region}
 use Rattle.sg_base.specs.declared.campaign.Campaign.{Campaign as CampaignRow}
 use Rattle.sg_base.specs.declared.daypart.Window.{Window}
-use Rattle.sg_base.specs.declared.repeat.Unit.TheVariants.{MonthWeekday}
 use Rattle.sg_base.specs.declared.event.When.{When}
 use Rattle.sg_base.specs.declared.event.When.TheVariants.{Always, Custom, Named}
 use Rattle.sg_base.specs.declared.event.Target.{Target}
 use Rattle.sg_base.specs.declared.event.Target.TheVariants.{Layout, Campaign}
 use Rattle.sg_base.specs.declared.file.Listed.{Listed}
-use Rattle.sg_base.specs.declared.limits.TheConstants.{MAX_FILE_LEN, MAX_CAMPAIGN_LAYOUTS}
+use Rattle.sg_base.specs.declared.limits.TheConstants.{MAX_FILE_LEN, MAX_CAMPAIGN_LAYOUTS, MAX_LAYER}
 use Rattle.sg_base.specs.Layout.{LayoutRow, IsLayout}
 use Rattle.sg_base.specs.Daypart.{DaypartRow, IsDaypart}
 use Rattle.sg_base.specs.Repeat.{RepeatRow}
 use Rattle.sg_base.specs.Event.{EventValue, IsEvent}
+use Rattle.sg_rows.specs.declared.form.RowForm.{RowForm}
+use Rattle.sg_rows.specs.Forms.{AllowsDates, AllowsUnit, AllowsLayer}
 
 -- an id of a row is at least 1 and has 32 bits
 pub record IsId (n : ℕ) : Type 0 where
@@ -57,11 +58,17 @@ pub record IsException (e : ℕ × Window) : Type 0 where
   pub day : e.0 < 2 ^ 8
   pub window : IsWindow e.1
 
-pub record IsDaypartRow (d : DaypartRow) : Type 0 where
+-- a date with its window
+pub record IsDate (e : ℕ × Window) : Type 0 where
+  pub date : e.0 < 2 ^ 32
+  pub window : IsWindow e.1
+
+pub record IsDaypartRow (form : RowForm) (d : DaypartRow) : Type 0 where
   pub id : IsId d.id.0
   pub window : IsWindow d.window
   pub exceptions : AllByRecursion IsException d.exceptions
-  pub undated : d.dates ≡ []
+  pub dates : AllByRecursion IsDate d.dates
+  pub allowed : AllowsDates form d.dates
   pub accepted : IsDaypart d
 
 abbrev pub IsTarget : Target → Type 0
@@ -73,30 +80,31 @@ IsWhen Always = Unit {0}
 IsWhen (Custom from to) = (from < 2 ^ 32) × (to < 2 ^ 32)
 IsWhen (Named daypart date) = IsId daypart.0 × (date < 2 ^ 32)
 
--- the unit of the version to come isn't said; seven weekdays: bit w - 1 of days is weekday w
+-- seven weekdays: bit w - 1 of days is weekday w
 pub record IsRepeatRow (r : RepeatRow) : Type 0 where
-  pub unit : r.unit ≢ MonthWeekday
   pub every : r.every < 2 ^ 32
   pub days : r.days < 2 ^ 7
   pub until : IfSome r.until (λ day. day < 2 ^ 32)
 
--- the numbers of an event fit, its repeat's too
-pub record IsEventParts (e : EventValue) : Type 0 where
+-- for private clauses: the numbers of an event fit, its repeat's too, and its layer is no later one
+pub record IsEventParts (form : RowForm) (e : EventValue) : Type 0 where
   pub id : IsId e.id.0
-  pub layer : e.layer ≡ 0
+  pub layer : e.layer ≢ MAX_LAYER
   pub target : IsTarget e.target
   pub when : IsWhen e.when
   pub repeat : IfSome e.repeat IsRepeatRow
+  pub unit : IfSome e.repeat (λ r. AllowsUnit form r.unit)
   pub order : e.order < 2 ^ 32
   pub priority : e.priority < 2 ^ 32
   pub share : e.share < 2 ^ 32
 
-pub record IsEventRow (e : EventValue) : Type 0 where
+pub record IsEventRow (form : RowForm) (e : EventValue) : Type 0 where
   pub id : IsId e.id.0
-  pub layer : e.layer ≡ 0
+  pub layer : AllowsLayer form e.layer
   pub target : IsTarget e.target
   pub when : IsWhen e.when
   pub repeat : IfSome e.repeat IsRepeatRow
+  pub unit : IfSome e.repeat (λ r. AllowsUnit form r.unit)
   pub order : e.order < 2 ^ 32
   pub priority : e.priority < 2 ^ 32
   pub share : e.share < 2 ^ 32

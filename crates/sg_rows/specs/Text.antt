@@ -1,6 +1,6 @@
--- Each row as JSON (RFC 8259), members in byte order of their names.
+-- Each row as JSON (RFC 8259) in each form, members in byte order of their names.
 use Rattle.std.specs.Prelude.{ℕ, ◌-◌, ◌/◌, ◌%◌, ◌^◌, ◌==◌, List, [], ◌∷◌, map, filter, codes, Option, Some, None, true}
-use Rattle.serde_json.specs.Data.{Data, null, boolean, number, string, array, object, unsigned, member, no_members}
+use Rattle.serde_json.specs.Data.{Data, null, boolean, number, string, array, object, unsigned, Members, member, no_members}
 use Rattle.serde_json.specs.Find.{of_integer}
 use Rattle.serde_json.specs.View.{items_of}
 use Rattle.hex.specs.Hex.{encode_lower}
@@ -22,6 +22,8 @@ use Rattle.sg_base.specs.Layout.{LayoutRow}
 use Rattle.sg_base.specs.Daypart.{DaypartRow}
 use Rattle.sg_base.specs.Repeat.{RepeatRow}
 use Rattle.sg_base.specs.Event.{EventValue}
+use Rattle.sg_rows.specs.declared.form.RowForm.{RowForm}
+use Rattle.sg_rows.specs.declared.form.RowForm.TheVariants.{Version1, Version2, Edit}
 
 abbrev pub whole : ℕ → Data
 whole n = number (unsigned n)
@@ -48,12 +50,27 @@ campaign_json c = object (member (codes "id") (whole c.id.0) (member (codes "lay
 abbrev pub exception_json : ℕ × Window → Data
 exception_json e = object (member (codes "day") (whole e.0) (member (codes "end") (whole e.1.end) (member (codes "start") (whole e.1.start) no_members)))
 
-abbrev pub daypart_json : DaypartRow → Data
-daypart_json d = object
-    (member (codes "end") (whole d.window.end)
+abbrev pub date_json : ℕ × Window → Data
+date_json e = object (member (codes "date") (whole e.0) (member (codes "end") (whole e.1.end) (member (codes "start") (whole e.1.start) no_members)))
+
+-- the members of a daypart without dates, as version 1 has them, and a server before version 2
+abbrev pub daypart_members : DaypartRow → Members
+daypart_members d =
+    member (codes "end") (whole d.window.end)
     (member (codes "exceptions") (list_of exception_json d.exceptions)
     (member (codes "id") (whole d.id.0)
-    (member (codes "start") (whole d.window.start) no_members))))
+    (member (codes "start") (whole d.window.start) no_members)))
+
+abbrev pub undated_json : DaypartRow → Data
+undated_json d = object (daypart_members d)
+
+abbrev pub dated_json : DaypartRow → Data
+dated_json d = object (member (codes "dates") (list_of date_json d.dates) (daypart_members d))
+
+abbrev pub daypart_json : RowForm → DaypartRow → Data
+daypart_json Version1 d = undated_json d
+daypart_json Version2 d = dated_json d
+daypart_json Edit d = dated_json d
 
 -- the weekdays of a repeat, 1 (Monday) to 7 (Sunday): bit w - 1 of days is weekday w
 abbrev pub weekdays : ℕ → List ℕ
@@ -88,15 +105,28 @@ when_json Always = object (member (codes "always") (boolean true) no_members)
 when_json (Custom from to) = object (member (codes "from") (whole from) (member (codes "to") (whole to) no_members))
 when_json (Named daypart date) = object (member (codes "date") (whole date) (member (codes "daypart") (whole daypart.0) no_members))
 
-abbrev pub event_json : EventValue → Data
-event_json e = object
-    (member (codes "id") (whole e.id.0)
-    (member (codes "order") (whole e.order)
+-- the members of an event behind its id and its layer
+abbrev pub last_members : EventValue → Members
+last_members e =
+    member (codes "order") (whole e.order)
     (member (codes "priority") (whole e.priority)
     (member (codes "repeat") (repeat_json e.repeat)
     (member (codes "share") (whole e.share)
     (member (codes "target") (target_json e.target)
-    (member (codes "when") (when_json e.when) no_members)))))))
+    (member (codes "when") (when_json e.when) no_members)))))
+
+-- the members of an event without a layer, as version 1 has them, and a server before version 2
+abbrev pub flat_members : EventValue → Members
+flat_members e = member (codes "id") (whole e.id.0) (last_members e)
+
+abbrev pub layered_members : EventValue → Members
+layered_members e = member (codes "id") (whole e.id.0) (member (codes "layer") (whole e.layer) (last_members e))
+
+-- an event by itself; in an edit it stands with those that it is for
+abbrev pub event_json : RowForm → EventValue → Data
+event_json Version1 e = object (flat_members e)
+event_json Version2 e = object (layered_members e)
+event_json Edit e = object (layered_members e)
 
 -- the digest as 32 lower-case hexadecimal digits
 abbrev pub file_json : Listed → Data

@@ -6,9 +6,11 @@ ghost use Rattle.sg_rows.specs.Rows.{IsLayoutId};
 ghost use Rattle.sg_rows.specs.Faults.{Gives};
 ghost use Rattle.sg_rows.specs.Reading.{some_layouts};
 
-use crate::entry::{Entry, Keyed, read_list, write_list};
+use crate::entry::{Entry, read_list, write_list};
 use crate::fault::RowFault;
+use crate::form::RowForm;
 use crate::part;
+use crate::row::ManifestRow;
 use serde_json::{Value, json};
 use sg_base::limits::MAX_CAMPAIGN_LAYOUTS;
 use sg_base::{Campaign, CampaignId, LayoutId, Rows};
@@ -51,23 +53,25 @@ fn some_layouts(layouts: Vec<LayoutId>) -> Result<Rows<LayoutId>, RowFault>
 }
 
 #[tactic(auto, unfolding(crate::specs::Reading::campaign_at))]
-impl Entry for Campaign {
+impl ManifestRow for Campaign {
     ghost use Rattle.sg_rows.specs.Text.{campaign_json};
     ghost use Rattle.sg_rows.specs.Reading.{campaign_at};
     ghost use Rattle.sg_rows.specs.Rows.{IsCampaignRow};
 
-    ghost json = { campaign_json };
+    ghost json = { λ _. campaign_json };
 
-    ghost at = { campaign_at };
+    ghost at = { λ _. campaign_at };
 
-    ghost valid = { IsCampaignRow };
+    ghost valid = { λ _. IsCampaignRow };
 
-    fn write(&self, alloc: Global) -> Result<Value, AllocError> {
+    ghost key = { λ c. c.id.0 };
+
+    fn write(&self, alloc: Global, _form: RowForm) -> Result<Value, AllocError> {
         let layouts = write_list(alloc, self.layouts.as_slice())?;
         json!(in alloc; {"id": self.id.0, "layouts": layouts})
     }
 
-    fn read(alloc: Global, value: &Value) -> Result<Campaign, RowFault> {
+    fn read(alloc: Global, _form: RowForm, value: &Value) -> Result<Campaign, RowFault> {
         part::exactly(value, 2)?;
         let id = part::id(value, "id")?;
         let layouts = some_layouts(read_list(alloc, part::member(value, "layouts")?)?)?;
@@ -76,10 +80,6 @@ impl Entry for Campaign {
             layouts,
         })
     }
-}
-
-impl Keyed for Campaign {
-    ghost key = { λ c. c.id.0 };
 
     fn key(&self) -> u32 {
         self.id.0

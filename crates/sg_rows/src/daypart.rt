@@ -1,19 +1,23 @@
-//! Dayparts in JSON: a window with its exceptions.
+//! Dayparts in JSON: a window, with other windows for weekdays and for dates.
 
 ghost use Rattle.std.specs.Prelude.{◌≡◌, ◌^◌, ◌<◌, [], IfOk, not, codes};
 ghost use Rattle.std.specs.List.{AllByRecursion};
 ghost use Rattle.serde_json.specs.View.{view};
 ghost use Rattle.sg_base.specs.Daypart.{IsDaypart, daypart_fault};
 ghost use Rattle.sg_rows.specs.Faults.{Gives, needs, faultless};
+ghost use Rattle.sg_rows.specs.Forms.{AllowsDates, is_later_daypart, new_member_at, with_new};
 ghost use Rattle.sg_rows.specs.Order.{sorted_by};
-ghost use Rattle.sg_rows.specs.Parts.{has_member};
-ghost use Rattle.sg_rows.specs.Rows.{IsWindow, IsException, IsDaypartRow, IsId};
-ghost use Rattle.sg_rows.specs.Reading.{small, window_at};
+ghost use Rattle.sg_rows.specs.Parts.{exactly, list_at};
+ghost use Rattle.sg_rows.specs.Rows.{IsWindow, IsException, IsDate, IsDaypartRow, IsId};
+ghost use Rattle.sg_rows.specs.Reading.{small, window_at, date_at};
+ghost use Rattle.sg_rows.specs.Text.{list_of, date_json, exception_json, undated_json, dated_json};
 ghost use Rattle.sg_rows.specs.declared.fault.RowFault.TheVariants.{Later, Daypart as DaypartCause};
 
-use crate::entry::{Entry, Keyed, read_list, write_list};
+use crate::entry::{Entry, read_list, write_list};
 use crate::fault::RowFault;
+use crate::form::RowForm;
 use crate::part;
+use crate::row::ManifestRow;
 use serde_json::{Value, json};
 use sg_base::{Daypart, DaypartId, Window};
 use std::alloc::{AllocError, Global};
@@ -63,19 +67,72 @@ impl Entry for (u8, Window) {
     }
 }
 
-/// A daypart of a later version has exceptions for dates.
-fn not_later(value: &Value) -> Result<(), RowFault>
-    ensures { Gives (λ one. one) result (needs (not (has_member (codes "dates") (view value.now))) Later) }
+#[tactic(auto, unfolding(crate::specs::Reading::date_at))]
+impl Entry for (u32, Window) {
+    ghost use Rattle.sg_rows.specs.Text.{date_json};
+    ghost use Rattle.sg_rows.specs.Reading.{date_at};
+    ghost use Rattle.sg_rows.specs.Rows.{IsDate};
+
+    ghost json = { date_json };
+
+    ghost at = { date_at };
+
+    ghost valid = { IsDate };
+
+    fn write(&self, alloc: Global) -> Result<Value, AllocError> {
+        json!(in alloc; {"date": self.0, "end": self.1.end, "start": self.1.start})
+    }
+
+    fn read(_alloc: Global, value: &Value) -> Result<(u32, Window), RowFault> {
+        part::exactly(value, 3)?;
+        let date = part::number(value, "date")?;
+        let window = window(value)?;
+        Ok((date, window))
+    }
+}
+
+/// Version 1 has no dates, so a daypart that has them is of a later one.
+fn not_later(form: RowForm, value: &Value) -> Result<(), RowFault>
+    ensures { Gives (λ one. one) result
+        (needs (not (is_later_daypart form (view value.now))) Later) }
 {
-    if part::has(value, "dates") {
+    if form == RowForm::Version1 && part::has(value, "dates") {
         Err(RowFault::Later)
     } else {
         Ok(())
     }
 }
 
-/// The daypart of windows, its exceptions by weekday. This version has no dates.
+/// Four members, and the dates where they are one.
+fn members(form: RowForm, value: &Value) -> Result<(), RowFault>
+    ensures { Gives (λ one. one) result
+        (exactly (with_new form 4 (codes "dates") (view value.now)) (view value.now)) }
+{
+    if form.has_new(value, "dates") {
+        part::exactly(value, 5)
+    } else {
+        part::exactly(value, 4)
+    }
+}
+
+/// The dates that have a window of their own, in the order given.
+#[tactic(auto, using(crate::proofs::FormLemmas::some_dates, crate::proofs::FormLemmas::no_dates))]
+fn read_dates(alloc: Global, form: RowForm, value: &Value) -> Result<Vec<(u32, Window)>, RowFault>
+    ensures gives { Gives (λ ds. ds.items) result
+        (new_member_at form (list_at date_at) [] (codes "dates") (view value.now)) }
+    ensures sound { IfOk result (λ ds. AllByRecursion IsDate ds.items) }
+    ensures allowed { IfOk result (λ ds. AllowsDates form ds.items) }
+{
+    if form.has_new(value, "dates") {
+        read_list(alloc, part::member(value, "dates")?)
+    } else {
+        Ok(Vec::new(alloc))
+    }
+}
+
+/// The daypart of windows, its exceptions by weekday and its dates ascending.
 fn made(
+    form: RowForm,
     id: u32,
     window: Window,
     exceptions: Vec<(u8, Window)>,
@@ -84,7 +141,8 @@ fn made(
     requires id { IsId id }
     requires window { IsWindow window }
     requires exceptions { AllByRecursion IsException exceptions.items }
-    requires none { dates.items ≡ [] }
+    requires dates { AllByRecursion IsDate dates.items }
+    requires allowed { AllowsDates form dates.items }
     ensures gives { Gives (λ d. d) result
         (faultless DaypartCause (daypart_fault window exceptions.items dates.items)
         (record {
@@ -93,7 +151,7 @@ fn made(
           exceptions = sorted_by (λ e. e.0) exceptions.items;
           dates = sorted_by (λ e. e.0) dates.items;
         })) }
-    ensures sound { IfOk result IsDaypartRow }
+    ensures sound { IfOk result (IsDaypartRow form) }
 {
     match Daypart::new(DaypartId(id), window, exceptions, dates) {
         Ok(daypart) => Ok(daypart),
@@ -101,8 +159,53 @@ fn made(
     }
 }
 
+/// A daypart without its dates, as JSON: as version 1 has it.
+pub fn write_undated(alloc: Global, daypart: &Daypart) -> Result<Value, AllocError>
+    ensures { IfOk result (λ v. view v ≡ undated_json daypart.now) }
+{
+    let exceptions = write_list(alloc, daypart.exceptions())?;
+    let window = daypart.window();
+    json!(in alloc; {
+        "end": window.end,
+        "exceptions": exceptions,
+        "id": daypart.id().0,
+        "start": window.start
+    })
+}
+
+/// The two lists of a daypart, as JSON.
+#[derive(Drop)]
+struct Lists {
+    dates: Value,
+    exceptions: Value,
+}
+
+fn write_lists(alloc: Global, daypart: &Daypart) -> Result<Lists, AllocError>
+    ensures dates { IfOk result (λ l. view l.dates ≡ list_of date_json daypart.now.dates) }
+    ensures exceptions { IfOk result
+        (λ l. view l.exceptions ≡ list_of exception_json daypart.now.exceptions) }
+{
+    let dates = write_list(alloc, daypart.dates())?;
+    let exceptions = write_list(alloc, daypart.exceptions())?;
+    Ok(Lists { dates, exceptions })
+}
+
+fn write_dated(alloc: Global, daypart: &Daypart) -> Result<Value, AllocError>
+    ensures { IfOk result (λ v. view v ≡ dated_json daypart.now) }
+{
+    let lists = write_lists(alloc, daypart)?;
+    let window = daypart.window();
+    json!(in alloc; {
+        "dates": lists.dates,
+        "end": window.end,
+        "exceptions": lists.exceptions,
+        "id": daypart.id().0,
+        "start": window.start
+    })
+}
+
 #[tactic(auto, unfolding(crate::specs::Reading::daypart_at))]
-impl Entry for Daypart {
+impl ManifestRow for Daypart {
     ghost use Rattle.sg_rows.specs.Text.{daypart_json};
     ghost use Rattle.sg_rows.specs.Reading.{daypart_at};
     ghost use Rattle.sg_rows.specs.Rows.{IsDaypartRow};
@@ -113,29 +216,24 @@ impl Entry for Daypart {
 
     ghost valid = { IsDaypartRow };
 
-    fn write(&self, alloc: Global) -> Result<Value, AllocError> {
-        let exceptions = write_list(alloc, self.exceptions())?;
-        let window = self.window();
-        json!(in alloc; {
-            "end": window.end,
-            "exceptions": exceptions,
-            "id": self.id().0,
-            "start": window.start
-        })
+    ghost key = { λ d. d.id.0 };
+
+    fn write(&self, alloc: Global, form: RowForm) -> Result<Value, AllocError> {
+        match form {
+            RowForm::Version1 => write_undated(alloc, self),
+            RowForm::Version2 | RowForm::Edit => write_dated(alloc, self),
+        }
     }
 
-    fn read(alloc: Global, value: &Value) -> Result<Daypart, RowFault> {
-        not_later(value)?;
-        part::exactly(value, 4)?;
+    fn read(alloc: Global, form: RowForm, value: &Value) -> Result<Daypart, RowFault> {
+        not_later(form, value)?;
+        members(form, value)?;
         let id = part::id(value, "id")?;
         let window = window(value)?;
         let exceptions = read_list(alloc, part::member(value, "exceptions")?)?;
-        made(id, window, exceptions, Vec::new(alloc))
+        let dates = read_dates(alloc, form, value)?;
+        made(form, id, window, exceptions, dates)
     }
-}
-
-impl Keyed for Daypart {
-    ghost key = { λ d. d.id.0 };
 
     fn key(&self) -> u32 {
         self.id().0

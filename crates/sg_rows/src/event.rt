@@ -1,20 +1,23 @@
 //! Events in JSON.
 
-ghost use Rattle.std.specs.Prelude.{◌≡◌, IfOk, not, codes};
+ghost use Rattle.std.specs.Prelude.{◌≡◌, false, IfOk, OnOk, not, codes};
 ghost use Rattle.serde_json.specs.View.{view};
-ghost use Rattle.sg_rows.specs.Text.{target_json, when_json};
+ghost use Rattle.sg_rows.specs.Text.{target_json, when_json, event_json};
+ghost use Rattle.sg_rows.specs.Forms.{event_members, is_later_layer, is_later_event, new_member_at, with_new};
+ghost use Rattle.sg_rows.specs.declared.form.RowForm.TheVariants.{Version1, Version2};
 ghost use Rattle.sg_rows.specs.Faults.{Gives, needs};
 ghost use Rattle.sg_rows.specs.Rows.{IsTarget, IsWhen, IsEventParts, IsEventRow};
-ghost use Rattle.sg_rows.specs.Parts.{member_at};
-ghost use Rattle.sg_rows.specs.Reading.{target_at, true_at, always_at, custom_at, named_at, when_at, is_later_event, parts_at, made_event};
+ghost use Rattle.sg_rows.specs.Parts.{exactly, number_at};
+ghost use Rattle.sg_rows.specs.Reading.{target_at, true_at, always_at, custom_at, named_at, when_at, parts_at, made_event};
 ghost use Rattle.sg_rows.specs.declared.fault.RowFault.TheVariants.{Later};
 
-use crate::entry::{Entry, Keyed};
 use crate::fault::RowFault;
-use crate::form::Form;
+use crate::form::RowForm;
 use crate::part;
 use crate::repeat::{RepeatParts, is_later, made_repeat, read_repeat, write_repeat};
+use crate::row::ManifestRow;
 use serde_json::{Value, json};
+use sg_base::limits::MAX_LAYER;
 use sg_base::{CampaignId, DaypartId, Event, EventId, LayoutId, Target, When};
 use std::alloc::{AllocError, Global};
 use std::marker::Model;
@@ -134,15 +137,79 @@ impl Model for EventParts {
     ghost inverse = { λ e. record { id = e.id; layer = e.layer; target = e.target; when = e.when; repeat = e.repeat; order = e.order; priority = e.priority; share = e.share } };
 }
 
-/// The values of an event's own seven members, where it is of its form. It is refused with `Later`, then with `Shape`.
-#[tactic(auto, unfolding(crate::specs::Reading::parts_at))]
-pub fn read_event_parts(form: Form, value: &Value) -> Result<EventParts, RowFault>
-    ensures gives { Gives (λ e. e) result (parts_at form (view value.now)) }
-    ensures sound { IfOk result IsEventParts }
+/// Whether the layer is a later version's: that above the picture.
+fn is_later_layer(value: &Value) -> bool
+    ensures { result ≡ is_later_layer (view value.now) }
 {
-    not_later(value)?;
-    part::exactly(value, form.event_members())?;
+    match value.as_u64() {
+        Some(layer) => layer == u64::from(MAX_LAYER),
+        None => false,
+    }
+}
+
+/// Whether an event says what only a later version than its form can.
+fn is_later_event(form: RowForm, value: &Value) -> bool
+    ensures { result ≡ is_later_event form (view value.now) }
+{
+    match form {
+        RowForm::Version1 => match value.get("repeat") {
+            Some(repeat) => is_later(repeat),
+            None => false,
+        },
+        RowForm::Version2 | RowForm::Edit => match value.get("layer") {
+            Some(layer) => is_later_layer(layer),
+            None => false,
+        },
+    }
+}
+
+fn not_later(form: RowForm, value: &Value) -> Result<(), RowFault>
+    ensures gives { Gives (λ one. one) result
+        (needs (not (is_later_event form (view value.now))) Later) }
+    ensures now { OnOk result (is_later_event form (view value.now) ≡ false) }
+{
+    if is_later_event(form, value) {
+        Err(RowFault::Later)
+    } else {
+        Ok(())
+    }
+}
+
+/// The members that an event of its form has.
+fn members(form: RowForm, value: &Value) -> Result<(), RowFault>
+    ensures { Gives (λ one. one) result
+        (exactly (with_new form (event_members form) (codes "layer") (view value.now)) (view value.now)) }
+{
+    let others = form.event_members();
+    if form.has_new(value, "layer") {
+        part::exactly(value, others + 1)
+    } else {
+        part::exactly(value, others)
+    }
+}
+
+/// The layer, 0 where the form has none or leaves it out.
+fn read_layer(form: RowForm, value: &Value) -> Result<u32, RowFault>
+    ensures { Gives (λ n. n) result
+        (new_member_at form number_at 0 (codes "layer") (view value.now)) }
+{
+    if form.has_new(value, "layer") {
+        part::number(value, "layer")
+    } else {
+        Ok(0)
+    }
+}
+
+/// The values that an event has by itself, where it is of its form. It is refused with `Later`, then with `Shape`.
+#[tactic(auto, unfolding(crate::specs::Reading::parts_at))]
+pub fn read_event_parts(form: RowForm, value: &Value) -> Result<EventParts, RowFault>
+    ensures gives { Gives (λ e. e) result (parts_at form (view value.now)) }
+    ensures sound { IfOk result (IsEventParts form) }
+{
+    not_later(form, value)?;
+    members(form, value)?;
     let id = part::id(value, "id")?;
+    let layer = read_layer(form, value)?;
     let order = part::number(value, "order")?;
     let priority = part::number(value, "priority")?;
     let repeat = read_repeat(part::member(value, "repeat")?)?;
@@ -151,7 +218,7 @@ pub fn read_event_parts(form: Form, value: &Value) -> Result<EventParts, RowFaul
     let when = read_when(part::member(value, "when")?)?;
     Ok(EventParts {
         id: EventId(id),
-        layer: 0,
+        layer,
         target,
         when,
         repeat,
@@ -162,10 +229,11 @@ pub fn read_event_parts(form: Form, value: &Value) -> Result<EventParts, RowFaul
 }
 
 /// The event that values make. The fault of its repeat comes before its own.
-pub fn make_event(parts: EventParts) -> Result<Event, RowFault>
-    requires { IsEventParts parts }
+#[tactic(auto, using(crate::proofs::EventLemmas::layer_zero))]
+pub fn make_event(form: RowForm, parts: EventParts) -> Result<Event, RowFault>
+    requires { IsEventParts form parts }
     ensures gives { Gives (λ e. e) result (made_event parts) }
-    ensures sound { IfOk result IsEventRow }
+    ensures sound { IfOk result (IsEventRow form) }
 {
     let repeat = made_repeat(parts.repeat)?;
     match Event::new(
@@ -183,22 +251,43 @@ pub fn make_event(parts: EventParts) -> Result<Event, RowFault>
     }
 }
 
-/// An event of a later version has a repeat of one.
-fn not_later(value: &Value) -> Result<(), RowFault>
-    ensures { Gives (λ one. one) result (needs (not (is_later_event (view value.now))) Later) }
+fn write_flat(alloc: Global, event: &Event) -> Result<Value, AllocError>
+    ensures { IfOk result (λ v. view v ≡ event_json Version1 event.now) }
 {
-    match value.get("repeat") {
-        Some(repeat) => if is_later(repeat) {
-            Err(RowFault::Later)
-        } else {
-            Ok(())
-        },
-        None => Ok(()),
-    }
+    let repeat = write_repeat(alloc, event.repeat())?;
+    let target = write_target(alloc, event.target())?;
+    let when = write_when(alloc, event.when())?;
+    json!(in alloc; {
+        "id": event.id().0,
+        "order": event.order(),
+        "priority": event.priority(),
+        "repeat": repeat,
+        "share": event.share(),
+        "target": target,
+        "when": when
+    })
+}
+
+fn write_layered(alloc: Global, event: &Event) -> Result<Value, AllocError>
+    ensures { IfOk result (λ v. view v ≡ event_json Version2 event.now) }
+{
+    let repeat = write_repeat(alloc, event.repeat())?;
+    let target = write_target(alloc, event.target())?;
+    let when = write_when(alloc, event.when())?;
+    json!(in alloc; {
+        "id": event.id().0,
+        "layer": event.layer(),
+        "order": event.order(),
+        "priority": event.priority(),
+        "repeat": repeat,
+        "share": event.share(),
+        "target": target,
+        "when": when
+    })
 }
 
 #[tactic(auto, unfolding(crate::specs::Reading::event_at))]
-impl Entry for Event {
+impl ManifestRow for Event {
     ghost use Rattle.sg_rows.specs.Text.{event_json};
     ghost use Rattle.sg_rows.specs.Reading.{event_at};
     ghost use Rattle.sg_rows.specs.Rows.{IsEventRow};
@@ -209,29 +298,19 @@ impl Entry for Event {
 
     ghost valid = { IsEventRow };
 
-    fn write(&self, alloc: Global) -> Result<Value, AllocError> {
-        let repeat = write_repeat(alloc, self.repeat())?;
-        let target = write_target(alloc, self.target())?;
-        let when = write_when(alloc, self.when())?;
-        json!(in alloc; {
-            "id": self.id().0,
-            "order": self.order(),
-            "priority": self.priority(),
-            "repeat": repeat,
-            "share": self.share(),
-            "target": target,
-            "when": when
-        })
-    }
-
-    fn read(_alloc: Global, value: &Value) -> Result<Event, RowFault> {
-        let parts = read_event_parts(Form::Manifest, value)?;
-        make_event(parts)
-    }
-}
-
-impl Keyed for Event {
     ghost key = { λ e. e.id.0 };
+
+    fn write(&self, alloc: Global, form: RowForm) -> Result<Value, AllocError> {
+        match form {
+            RowForm::Version1 => write_flat(alloc, self),
+            RowForm::Version2 | RowForm::Edit => write_layered(alloc, self),
+        }
+    }
+
+    fn read(_alloc: Global, form: RowForm, value: &Value) -> Result<Event, RowFault> {
+        let parts = read_event_parts(form, value)?;
+        make_event(form, parts)
+    }
 
     fn key(&self) -> u32 {
         self.id().0

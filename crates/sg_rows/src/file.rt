@@ -4,32 +4,35 @@ ghost use Rattle.std.specs.Prelude.{◌≡◌, ◌≤◌, IfOk};
 ghost use Rattle.sg_rows.specs.Faults.{Gives};
 ghost use Rattle.sg_rows.specs.Reading.{file_length};
 
-use crate::entry::{Entry, Keyed};
 use crate::fault::RowFault;
+use crate::form::RowForm;
 use crate::part;
+use crate::row::ManifestRow;
 use serde_json::{Value, json};
 use sg_base::limits::MAX_FILE_LEN;
 use sg_base::{Listed, MediaId};
 use std::alloc::{AllocError, Global};
 
 #[tactic(auto, unfolding(crate::specs::Reading::file_at))]
-impl Entry for Listed {
+impl ManifestRow for Listed {
     ghost use Rattle.sg_rows.specs.Text.{file_json};
     ghost use Rattle.sg_rows.specs.Reading.{file_at};
     ghost use Rattle.sg_rows.specs.Rows.{IsListed};
 
-    ghost json = { file_json };
+    ghost json = { λ _. file_json };
 
-    ghost at = { file_at };
+    ghost at = { λ _. file_at };
 
-    ghost valid = { IsListed };
+    ghost valid = { λ _. IsListed };
 
-    fn write(&self, alloc: Global) -> Result<Value, AllocError> {
+    ghost key = { λ f. f.media.0 };
+
+    fn write(&self, alloc: Global, _form: RowForm) -> Result<Value, AllocError> {
         let digits = hex::encode(alloc, self.md5.as_slice())?;
         json!(in alloc; {"id": self.media.0, "length": self.length, "md5": digits})
     }
 
-    fn read(_alloc: Global, value: &Value) -> Result<Listed, RowFault> {
+    fn read(_alloc: Global, _form: RowForm, value: &Value) -> Result<Listed, RowFault> {
         part::exactly(value, 3)?;
         let media = part::id(value, "id")?;
         let length = file_length(part::number(value, "length")?)?;
@@ -40,10 +43,6 @@ impl Entry for Listed {
             md5,
         })
     }
-}
-
-impl Keyed for Listed {
-    ghost key = { λ f. f.media.0 };
 
     fn key(&self) -> u32 {
         self.media.0

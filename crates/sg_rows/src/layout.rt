@@ -2,9 +2,11 @@
 
 ghost use Rattle.std.specs.Prelude.{◌≡◌};
 
-use crate::entry::{Entry, Keyed, read_list, write_list};
+use crate::entry::{Entry, read_list, write_list};
 use crate::fault::RowFault;
+use crate::form::RowForm;
 use crate::part;
+use crate::row::ManifestRow;
 use serde_json::{Value, json};
 use sg_base::{Item, Layout, LayoutId, MediaId, Region, Rows};
 use std::alloc::{AllocError, Global};
@@ -65,23 +67,25 @@ impl Entry for Region {
 }
 
 #[tactic(auto, unfolding(crate::specs::Reading::layout_at), using(crate::proofs::RowLemmas::regions_have_ids))]
-impl Entry for Layout {
+impl ManifestRow for Layout {
     ghost use Rattle.sg_rows.specs.Text.{layout_json};
     ghost use Rattle.sg_rows.specs.Reading.{layout_at};
     ghost use Rattle.sg_rows.specs.Rows.{IsLayoutRow};
 
-    ghost json = { layout_json };
+    ghost json = { λ _. layout_json };
 
-    ghost at = { layout_at };
+    ghost at = { λ _. layout_at };
 
-    ghost valid = { IsLayoutRow };
+    ghost valid = { λ _. IsLayoutRow };
 
-    fn write(&self, alloc: Global) -> Result<Value, AllocError> {
+    ghost key = { λ l. l.id.0 };
+
+    fn write(&self, alloc: Global, _form: RowForm) -> Result<Value, AllocError> {
         let regions = write_list(alloc, self.regions())?;
         json!(in alloc; {"id": self.id().0, "regions": regions})
     }
 
-    fn read(alloc: Global, value: &Value) -> Result<Layout, RowFault> {
+    fn read(alloc: Global, _form: RowForm, value: &Value) -> Result<Layout, RowFault> {
         part::exactly(value, 2)?;
         let id = part::id(value, "id")?;
         let regions = read_list(alloc, part::member(value, "regions")?)?;
@@ -90,10 +94,6 @@ impl Entry for Layout {
             Err(fault) => Err(RowFault::Layout(fault)),
         }
     }
-}
-
-impl Keyed for Layout {
-    ghost key = { λ l. l.id.0 };
 
     fn key(&self) -> u32 {
         self.id().0

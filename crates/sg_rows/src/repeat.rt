@@ -7,7 +7,8 @@ ghost use Rattle.sg_rows.specs.Text.{list_of, whole, weekdays, unit_text, until_
 ghost use Rattle.sg_rows.specs.Faults.{Gives};
 ghost use Rattle.sg_rows.specs.Parts.{number_at, nullable_at};
 ghost use Rattle.sg_rows.specs.Rows.{IsRepeatRow};
-ghost use Rattle.sg_rows.specs.Reading.{with_weekday, days_at, unit_at, unit_of, repeat_at, made_repeat, is_later_repeat};
+ghost use Rattle.sg_rows.specs.Reading.{with_weekday, days_at, unit_at, unit_of, repeat_at, made_repeat};
+ghost use Rattle.sg_rows.specs.Forms.{is_later_repeat};
 
 use crate::entry::{Entry, write_list};
 use crate::fault::RowFault;
@@ -133,6 +134,8 @@ fn unit_of(name: &str) -> Option<Unit>
         Some(Unit::Week)
     } else if name == "month" {
         Some(Unit::Month)
+    } else if name == "month-weekday" {
+        Some(Unit::MonthWeekday)
     } else if name == "year" {
         Some(Unit::Year)
     } else {
@@ -222,6 +225,7 @@ pub(crate) fn made_repeat(parts: Option<RepeatParts>) -> Result<Option<Repeat>, 
     ensures gives { Gives (λ o. o) result (made_repeat parts) }
     ensures sound { IfOk result (λ o. IfSome o IsRepeatRow) }
     ensures accepted { IfOk result (λ o. IfSome o IsRepeat) }
+    ensures same { IfOk result (λ o. o ≡ parts) }
 {
     match parts {
         None => Ok(None),
@@ -232,7 +236,7 @@ pub(crate) fn made_repeat(parts: Option<RepeatParts>) -> Result<Option<Repeat>, 
     }
 }
 
-/// Whether a repeat is of a later version: by a weekday's place in the month.
+/// Whether a repeat is by the weekday of the month, which version 1 hasn't.
 pub(crate) fn is_later(value: &Value) -> bool
     ensures { result ≡ is_later_repeat (view value.now) }
 {

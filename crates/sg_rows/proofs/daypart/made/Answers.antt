@@ -24,5 +24,5 @@ returns-in-Ok-clause-sound c =
       exceptions = c.in-Ok.ensures.one_order;
       dates = c.in-Ok.ensures.one_order_of_dates;
     } in
-    valid_made (record { 0 = c.args.id }) c.args.window c.args.exceptions.items c.args.dates.items c.in-Ok.daypart is
-    c.requires.id c.requires.window c.requires.exceptions c.requires.none (search rules)
+    valid_made c.args.form (record { 0 = c.args.id }) c.args.window c.args.exceptions.items c.args.dates.items c.in-Ok.daypart is
+    c.requires.id c.requires.window c.requires.exceptions c.requires.dates c.requires.allowed (search rules)
