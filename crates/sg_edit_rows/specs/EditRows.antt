@@ -1,13 +1,14 @@
 -- The rows of edits: those of a manifest, groups, displays, and events with displays and groups. Their JSON, when they
--- are valid, and which row JSON says.
-use Rattle.std.specs.Prelude.{ℕ, ◌+◌, ◌<◌, ◌&&◌, ◌||◌, true, nat_lt, nat_le, Bool, List, [], ◌∷◌, map, codes, length, IsTrue, Result, Ok, Err}
+-- are valid, and which row JSON says, in each form.
+use Rattle.std.specs.Prelude.{◌≡◌, ◌≢◌, ℕ, ◌+◌, ◌<◌, ◌&&◌, ◌||◌, true, nat_lt, nat_le, Bool, List, [], ◌∷◌, map, codes, length, IsTrue, Result, Ok, Err}
 use Rattle.std.specs.List.{AllByRecursion, list_all}
-use Rattle.serde_json.specs.Data.{Data, string, object, member, no_members}
+use Rattle.serde_json.specs.Data.{Data, string, object, Members, member, no_members}
 use Rattle.sg_base.specs.declared.limits.TheConstants.{MAX_FEW, MAX_KEY}
 use Rattle.sg_base.specs.declared.ids.GroupId.{GroupId}
 use Rattle.sg_rows.specs.declared.fault.RowFault.{RowFault}
 use Rattle.sg_rows.specs.declared.fault.RowFault.TheVariants.{Shape}
-use Rattle.sg_rows.specs.declared.form.Form.TheVariants.{Edit}
+use Rattle.sg_rows.specs.declared.form.RowForm.{RowForm}
+use Rattle.sg_rows.specs.declared.form.RowForm.TheVariants.{Version1, Version2, Edit}
 use Rattle.sg_base.specs.declared.kind.Kind.{Kind}
 use Rattle.sg_base.specs.declared.kind.Kind.TheVariants as kind
 use Rattle.sg_base.specs.declared.row.Row.{Row}
@@ -17,9 +18,9 @@ use Rattle.sg_base.specs.declared.row.EventRow.{EventRow}
 use Rattle.sg_rows.specs.Faults.{◌>>=◌, needs}
 use Rattle.sg_rows.specs.Ids.{IsGroup, IsDisplayId, group_id_json, display_id_json, group_id_at, display_id_at}
 use Rattle.sg_rows.specs.Parts.{exactly, member_at, id_at, text_at, list_at}
-use Rattle.sg_rows.specs.Reading.{file_at, layout_at, campaign_at, daypart_at, zone_at, parts_at, made_event}
+use Rattle.sg_rows.specs.Reading.{file_at, layout_at, campaign_at, daypart_at, zone_at, parts_at, made_event, event_at}
 use Rattle.sg_rows.specs.Rows.{IsId, IsListed, IsLayoutRow, IsCampaignRow, IsDaypartRow, IsEventRow}
-use Rattle.sg_rows.specs.Text.{whole, list_of, file_json, layout_json, campaign_json, daypart_json, repeat_json, target_json, when_json, zone_json}
+use Rattle.sg_rows.specs.Text.{whole, list_of, file_json, layout_json, campaign_json, daypart_json, layered_members, event_json, zone_json}
 use Rattle.sg_rows.specs.Zone.{IsZone}
 
 -- ---- lists of a few ids
@@ -92,20 +93,17 @@ display_at d = do
 
 -- ---- scheduled events
 
-abbrev pub scheduled_json : EventRow → Data
-scheduled_json e = object
+-- the members of an event behind those that it is for
+abbrev pub scheduled_members : EventRow → Members → Data
+scheduled_members e ms = object
     (member (codes "displays") (list_of display_id_json e.displays)
-    (member (codes "groups") (list_of group_id_json e.groups)
-    (member (codes "id") (whole e.event.id.0)
-    (member (codes "order") (whole e.event.order)
-    (member (codes "priority") (whole e.event.priority)
-    (member (codes "repeat") (repeat_json e.event.repeat)
-    (member (codes "share") (whole e.event.share)
-    (member (codes "target") (target_json e.event.target)
-    (member (codes "when") (when_json e.event.when) no_members)))))))))
+    (member (codes "groups") (list_of group_id_json e.groups) ms))
+
+abbrev pub scheduled_json : EventRow → Data
+scheduled_json e = scheduled_members e (layered_members e.event)
 
 pub record IsScheduled (e : EventRow) : Type 0 where
-  pub event : IsEventRow e.event
+  pub event : IsEventRow Edit e.event
   pub displays : AllByRecursion IsDisplayId e.displays
   pub few_displays : AreFew (λ d. d.0) e.displays
   pub groups : AllByRecursion IsGroup e.groups
@@ -121,37 +119,80 @@ scheduled_at d = do
   event ← made_event parts
   Ok (record { event = event; displays = displays; groups = groups })
 
+-- in a manifest an event says for nobody that it is for them
+pub record IsListedEvent (form : RowForm) (e : EventRow) : Type 0 where
+  pub event : IsEventRow form e.event
+  pub displays : e.displays ≡ []
+  pub groups : e.groups ≡ []
+
+abbrev pub listed_at : RowForm → Data → Result EventRow RowFault
+listed_at form d = event_at form d >>= (λ e. Ok (record { event = e; displays = []; groups = [] }))
+
+-- ---- an event in each form
+
+abbrev pub event_row_json : RowForm → EventRow → Data
+event_row_json Version1 e = event_json Version1 e.event
+event_row_json Version2 e = event_json Version2 e.event
+event_row_json Edit e = scheduled_json e
+
+abbrev pub IsEventIn : RowForm → EventRow → Type 0
+IsEventIn Version1 e = IsListedEvent Version1 e
+IsEventIn Version2 e = IsListedEvent Version2 e
+IsEventIn Edit e = IsScheduled e
+
+abbrev pub event_row_at : RowForm → Data → Result EventRow RowFault
+event_row_at Version1 d = listed_at Version1 d
+event_row_at Version2 d = listed_at Version2 d
+event_row_at Edit d = scheduled_at d
+
 -- ---- a row of any kind
 
 -- a row of any kind, as contracts see it
 abbrev pub RowView : Type 0
 RowView = Row
 
-abbrev pub row_json : Row → Data
-row_json (row.Media f) = file_json f
-row_json (row.Layout l) = layout_json l
-row_json (row.Campaign c) = campaign_json c
-row_json (row.Daypart d) = daypart_json d
-row_json (row.Group g) = group_json g
-row_json (row.Display d) = display_json d
-row_json (row.Event e) = scheduled_json e
+abbrev pub row_json : RowForm → Row → Data
+row_json form (row.Media f) = file_json f
+row_json form (row.Layout l) = layout_json l
+row_json form (row.Campaign c) = campaign_json c
+row_json form (row.Daypart d) = daypart_json form d
+row_json form (row.Group g) = group_json g
+row_json form (row.Display d) = display_json d
+row_json form (row.Event e) = event_row_json form e
 
-abbrev pub IsRow : Row → Type 0
-IsRow (row.Media f) = IsListed f
-IsRow (row.Layout l) = IsLayoutRow l
-IsRow (row.Campaign c) = IsCampaignRow c
-IsRow (row.Daypart d) = IsDaypartRow d
-IsRow (row.Group g) = IsGroup g
-IsRow (row.Display d) = IsDisplay d
-IsRow (row.Event e) = IsScheduled e
+-- a valid row, which the form can say
+abbrev pub IsRow : RowForm → Row → Type 0
+IsRow form (row.Media f) = IsListed f
+IsRow form (row.Layout l) = IsLayoutRow l
+IsRow form (row.Campaign c) = IsCampaignRow c
+IsRow form (row.Daypart d) = IsDaypartRow form d
+IsRow form (row.Group g) = IsGroup g
+IsRow form (row.Display d) = IsDisplay d
+IsRow form (row.Event e) = IsEventIn form e
+
+-- the lists of a manifest have rows of these kinds
+abbrev pub IsOfManifest : Kind → Type 0
+IsOfManifest kind.Media = Unit {0}
+IsOfManifest kind.Layout = Unit {0}
+IsOfManifest kind.Campaign = Unit {0}
+IsOfManifest kind.Daypart = Unit {0}
+IsOfManifest kind.Group = ⊥
+IsOfManifest kind.Display = ⊥
+IsOfManifest kind.Event = Unit {0}
+IsOfManifest kind.Client = ⊥
 
 -- no row is of the kind of clients
-abbrev pub row_at : Kind → Data → Result Row RowFault
-row_at kind.Media d = file_at d >>= (λ f. Ok (row.Media f))
-row_at kind.Layout d = layout_at d >>= (λ l. Ok (row.Layout l))
-row_at kind.Campaign d = campaign_at d >>= (λ c. Ok (row.Campaign c))
-row_at kind.Daypart d = daypart_at d >>= (λ x. Ok (row.Daypart x))
-row_at kind.Group d = group_at d >>= (λ g. Ok (row.Group g))
-row_at kind.Display d = display_at d >>= (λ x. Ok (row.Display x))
-row_at kind.Event d = scheduled_at d >>= (λ e. Ok (row.Event e))
-row_at kind.Client d = Err Shape
+abbrev pub HasKind : RowForm → Kind → Type 0
+HasKind Version1 k = IsOfManifest k
+HasKind Version2 k = IsOfManifest k
+HasKind Edit k = k ≢ kind.Client
+
+abbrev pub row_at : Kind → RowForm → Data → Result Row RowFault
+row_at kind.Media form d = file_at d >>= (λ f. Ok (row.Media f))
+row_at kind.Layout form d = layout_at d >>= (λ l. Ok (row.Layout l))
+row_at kind.Campaign form d = campaign_at d >>= (λ c. Ok (row.Campaign c))
+row_at kind.Daypart form d = daypart_at form d >>= (λ x. Ok (row.Daypart x))
+row_at kind.Group form d = group_at d >>= (λ g. Ok (row.Group g))
+row_at kind.Display form d = display_at d >>= (λ x. Ok (row.Display x))
+row_at kind.Event form d = event_row_at form d >>= (λ e. Ok (row.Event e))
+row_at kind.Client form d = Err Shape

@@ -1,16 +1,16 @@
 //! Rows of each kind that are read and written again, and rows that are refused.
 
-ghost use Rattle.std.specs.Prelude.{◌≢◌};
-ghost use Rattle.sg_base.specs.declared.kind.Kind.TheVariants.{Client};
+ghost use Rattle.sg_rows.specs.declared.form.RowForm.TheVariants.{Version1, Version2, Edit};
+ghost use Rattle.sg_edit_rows.specs.EditRows.{HasKind};
 
-use crate::{read_row, write_row};
+use crate::{read_row, write_older_row, write_row};
 use serde_json::Value;
 use sg_base::{
     CampaignId, DaypartFault, DisplayId, EventFault, GroupId, Kind, LayoutFault, LayoutId, MediaId,
     RepeatFault, Row, Target, Window, ZoneRule,
 };
 use sg_calendar::ZoneFault;
-use sg_rows::RowFault;
+use sg_rows::{RowFault, RowForm};
 use std::alloc::Global;
 use std::process::Abort;
 use std::test::Fail;
@@ -23,45 +23,109 @@ const LAYOUT: &str =
 const CAMPAIGN: &str = r#"{"id":4,"layouts":[1,2,1]}"#;
 
 const DAYPART: &str =
-    r#"{"end":0,"exceptions":[{"day":6,"end":75600,"start":36000}],"id":9,"start":28800}"#;
+    r#"{"dates":[{"date":20148,"end":39600,"start":36000}],"end":0,"exceptions":[{"day":6,"end":75600,"start":36000}],"id":9,"start":28800}"#;
 
 const GROUP: &str = r#"{"id":3}"#;
 
 const DISPLAY: &str = r#"{"default":1,"groups":[3,5],"id":7,"key":"aZ09","zone":{"offset":60}}"#;
 
 const EVENT: &str =
-    r#"{"displays":[7],"groups":[3,5],"id":2,"order":3,"priority":4,"repeat":{"days":[1,5],"every":2,"unit":"week","until":19800},"share":0,"target":{"campaign":4},"when":{"date":19723,"daypart":9}}"#;
+    r#"{"displays":[7],"groups":[3,5],"id":2,"layer":0,"order":3,"priority":4,"repeat":{"days":[1,5],"every":2,"unit":"week","until":19800},"share":0,"target":{"campaign":4},"when":{"date":19723,"daypart":9}}"#;
 
-/// The row of a kind that a text says.
+/// The row of a kind that a text says in an edit.
 fn row_of(alloc: Global, kind: Kind, text: &str) -> Result<Row, Fail>
-    requires { kind ≢ Client }
+    requires { HasKind Edit kind }
 {
     let value = Value::from_str(alloc, text)?;
-    Ok(read_row(alloc, kind, &value)?)
+    Ok(read_row(alloc, kind, RowForm::Edit, &value)?)
 }
 
-/// Sees that a text says a row whose text it is.
-fn again(rt: &impl Abort, alloc: Global, kind: Kind, text: &str) -> Result<(), Fail>
-    requires { kind ≢ Client }
+/// Sees that a text says a row whose text it is, in a form.
+fn again(rt: &impl Abort, alloc: Global, kind: Kind, form: RowForm, text: &str) -> Result<(), Fail>
+    requires { HasKind form kind }
 {
     let value = Value::from_str(alloc, text)?;
-    let row = read_row(alloc, kind, &value)?;
+    let row = read_row(alloc, kind, form, &value)?;
     assert_eq!(rt; row.kind(), kind);
-    let written = write_row(alloc, &row)?.to_string(alloc)?;
+    let written = write_row(alloc, &row, form)?.to_string(alloc)?;
     assert_eq!(rt; written.as_str(), text);
     Ok(())
 }
 
 #[test]
-fn rows_again(rt: HostRuntime) -> Result<(), Fail> {
+fn rows_of_edits_again(rt: HostRuntime) -> Result<(), Fail> {
     let alloc = rt.alloc();
-    again(&rt, alloc, Kind::Media, FILE)?;
-    again(&rt, alloc, Kind::Layout, LAYOUT)?;
-    again(&rt, alloc, Kind::Campaign, CAMPAIGN)?;
-    again(&rt, alloc, Kind::Daypart, DAYPART)?;
-    again(&rt, alloc, Kind::Group, GROUP)?;
-    again(&rt, alloc, Kind::Display, DISPLAY)?;
-    again(&rt, alloc, Kind::Event, EVENT)
+    again(&rt, alloc, Kind::Media, RowForm::Edit, FILE)?;
+    again(&rt, alloc, Kind::Layout, RowForm::Edit, LAYOUT)?;
+    again(&rt, alloc, Kind::Campaign, RowForm::Edit, CAMPAIGN)?;
+    again(&rt, alloc, Kind::Daypart, RowForm::Edit, DAYPART)?;
+    again(&rt, alloc, Kind::Group, RowForm::Edit, GROUP)?;
+    again(&rt, alloc, Kind::Display, RowForm::Edit, DISPLAY)?;
+    again(&rt, alloc, Kind::Event, RowForm::Edit, EVENT)
+}
+
+/// A daypart of version 1, which a server before version 2 kept so too.
+const UNDATED: &str =
+    r#"{"end":0,"exceptions":[{"day":6,"end":75600,"start":36000}],"id":9,"start":28800}"#;
+
+/// An event of version 1.
+const FLAT: &str =
+    r#"{"id":2,"order":3,"priority":4,"repeat":null,"share":0,"target":{"campaign":4},"when":{"always":true}}"#;
+
+/// An event of version 2, by the weekday of the month.
+const LAYERED: &str =
+    r#"{"id":2,"layer":0,"order":3,"priority":4,"repeat":{"days":[],"every":1,"unit":"month-weekday","until":null},"share":0,"target":{"layout":1},"when":{"from":1736326800,"to":1736330400}}"#;
+
+#[test]
+fn rows_of_manifests_again(rt: HostRuntime) -> Result<(), Fail> {
+    let alloc = rt.alloc();
+    again(&rt, alloc, Kind::Media, RowForm::Version1, FILE)?;
+    again(&rt, alloc, Kind::Layout, RowForm::Version2, LAYOUT)?;
+    again(&rt, alloc, Kind::Campaign, RowForm::Version1, CAMPAIGN)?;
+    again(&rt, alloc, Kind::Daypart, RowForm::Version1, UNDATED)?;
+    again(&rt, alloc, Kind::Daypart, RowForm::Version2, DAYPART)?;
+    again(&rt, alloc, Kind::Event, RowForm::Version1, FLAT)?;
+    again(&rt, alloc, Kind::Event, RowForm::Version2, LAYERED)
+}
+
+/// A scheduled event as a server kept it before version 2.
+const OLDER_EVENT: &str =
+    r#"{"displays":[7],"groups":[3,5],"id":2,"order":3,"priority":4,"repeat":{"days":[1,5],"every":2,"unit":"week","until":19800},"share":0,"target":{"campaign":4},"when":{"date":19723,"daypart":9}}"#;
+
+/// Sees that a text says a row in an edit, of which it is the older text.
+fn older_again(rt: &impl Abort, alloc: Global, kind: Kind, text: &str) -> Result<(), Fail>
+    requires { HasKind Edit kind }
+{
+    let row = row_of(alloc, kind, text)?;
+    let older = write_older_row(alloc, &row)?.ok_or("no older text")?;
+    assert_eq!(rt; older.to_string(alloc)?.as_str(), text);
+    Ok(())
+}
+
+#[test]
+fn older_rows(rt: HostRuntime) -> Result<(), Fail> {
+    let alloc = rt.alloc();
+    older_again(&rt, alloc, Kind::Daypart, UNDATED)?;
+    older_again(&rt, alloc, Kind::Event, OLDER_EVENT)?;
+    // What version 2 brought has no older text, and other rows have the text of today.
+    assert!(rt; write_older_row(alloc, &row_of(alloc, Kind::Daypart, DAYPART)?)?.is_none());
+    assert!(rt; write_older_row(alloc, &row_of(alloc, Kind::Group, GROUP)?)?.is_none());
+    Ok(())
+}
+
+#[test]
+fn dates_ascend(rt: HostRuntime) -> Result<(), Fail> {
+    let text =
+        r#"{"dates":[{"date":9,"end":2,"start":1},{"date":8,"end":4,"start":3}],"end":0,"exceptions":[],"id":9,"start":0}"#;
+    match row_of(rt.alloc(), Kind::Daypart, text)? {
+        Row::Daypart(daypart) => {
+            let first = Window { start: 3, end: 4 };
+            let second = Window { start: 1, end: 2 };
+            assert_eq!(rt; daypart.dates(), [(8, first), (9, second)].as_slice());
+        }
+        _ => return Err(Fail::from("no daypart")),
+    }
+    Ok(())
 }
 
 #[test]
@@ -123,18 +187,23 @@ fn exceptions_by_weekday(rt: HostRuntime) -> Result<(), Fail> {
     Ok(())
 }
 
-/// Sees that each text has this fault as a row of a kind.
+/// Sees that each text has this fault as a row of a kind in a form.
 fn refuse(
     rt: &impl Abort,
     alloc: Global,
     kind: Kind,
+    form: RowForm,
     texts: &[(&str, RowFault)],
 ) -> Result<(), Fail>
-    requires { kind ≢ Client }
+    requires { HasKind form kind }
 {
     for (text, fault) in texts {
         let value = Value::from_str(alloc, text)?;
-        assert_eq!(rt; read_row(alloc, kind, &value).err(), Some(*fault), "{text}");
+        assert_eq!(rt;
+            read_row(alloc, kind, form, &value).err(),
+            Some(*fault),
+            "{text}"
+        );
     }
     Ok(())
 }
@@ -199,7 +268,7 @@ const DISPLAYS: [(&str, RowFault); 12] = [
     ),
 ];
 
-const EVENTS: [(&str, RowFault); 8] = [
+const EVENTS: [(&str, RowFault); 11] = [
     // An event of a manifest is none of an edit.
     (
         r#"{"id":2,"order":3,"priority":0,"repeat":null,"share":0,"target":{"layout":4},"when":{"always":true}}"#,
@@ -230,33 +299,107 @@ const EVENTS: [(&str, RowFault); 8] = [
         r#"{"displays":[1],"groups":[],"id":2,"order":65536,"priority":0,"repeat":{"days":[],"every":1,"unit":"day","until":null},"share":0,"target":{"layout":4},"when":{"from":0,"to":1}}"#,
         RowFault::Event(EventFault::BigNumber),
     ),
-    (r#"{"repeat":{"unit":"month-weekday"}}"#, RowFault::Later),
+    // The layer above the picture is a later version's, and comes before the form of all else.
+    (r#"{"layer":1}"#, RowFault::Later),
+    (r#"{"layer":2}"#, RowFault::Shape),
+    (
+        r#"{"displays":[1],"groups":[],"id":2,"layer":2,"order":3,"priority":0,"repeat":null,"share":0,"target":{"layout":4},"when":{"always":true}}"#,
+        RowFault::Event(EventFault::BadLayer),
+    ),
+    (
+        r#"{"displays":[1],"groups":[],"id":2,"layer":"0","order":3,"priority":0,"repeat":null,"share":0,"target":{"layout":4},"when":{"always":true}}"#,
+        RowFault::Shape,
+    ),
+];
+
+const DATES: [(&str, RowFault); 5] = [
+    (
+        r#"{"dates":null,"end":0,"exceptions":[],"id":9,"start":0}"#,
+        RowFault::Shape,
+    ),
+    (
+        r#"{"dates":[{"date":8,"day":1,"end":4,"start":3}],"end":0,"exceptions":[],"id":9,"start":0}"#,
+        RowFault::Shape,
+    ),
+    (
+        r#"{"dates":[{"date":47482,"end":4,"start":3}],"end":0,"exceptions":[],"id":9,"start":0}"#,
+        RowFault::Daypart(DaypartFault::BadDate(47_482)),
+    ),
+    (
+        r#"{"dates":[{"date":8,"end":4,"start":3},{"date":8,"end":4,"start":3}],"end":0,"exceptions":[],"id":9,"start":0}"#,
+        RowFault::Daypart(DaypartFault::DoubleDate(8)),
+    ),
+    (
+        r#"{"dates":[{"date":8,"end":86400,"start":3}],"end":0,"exceptions":[{"day":8,"end":2,"start":1}],"id":9,"start":0}"#,
+        RowFault::Daypart(DaypartFault::BadTime(86_400)),
+    ),
 ];
 
 #[test]
 fn refused_rows(rt: HostRuntime) -> Result<(), Fail> {
     let alloc = rt.alloc();
-    refuse(&rt, alloc, Kind::Group, GROUPS.as_slice())?;
-    refuse(&rt, alloc, Kind::Display, DISPLAYS.as_slice())?;
-    refuse(&rt, alloc, Kind::Event, EVENTS.as_slice())?;
+    let edit = RowForm::Edit;
+    refuse(&rt, alloc, Kind::Group, edit, GROUPS.as_slice())?;
+    refuse(&rt, alloc, Kind::Display, edit, DISPLAYS.as_slice())?;
+    refuse(&rt, alloc, Kind::Event, edit, EVENTS.as_slice())?;
+    refuse(&rt, alloc, Kind::Daypart, edit, DATES.as_slice())?;
     let media = [(
         r#"{"complete":true,"id":7,"length":3,"md5":"900150983cd24fb0d6963f7d28e17f72"}"#,
         RowFault::Shape,
     )];
-    refuse(&rt, alloc, Kind::Media, media.as_slice())?;
+    refuse(&rt, alloc, Kind::Media, edit, media.as_slice())?;
     let layouts = [(
         r#"{"id":1,"regions":[]}"#,
         RowFault::Layout(LayoutFault::NoRegion),
     )];
-    refuse(&rt, alloc, Kind::Layout, layouts.as_slice())?;
+    refuse(&rt, alloc, Kind::Layout, edit, layouts.as_slice())?;
     let campaigns = [(r#"{"id":7,"layouts":[]}"#, RowFault::Shape)];
-    refuse(&rt, alloc, Kind::Campaign, campaigns.as_slice())?;
-    let dayparts = [
-        (r#"{"dates":0}"#, RowFault::Later),
-        (
-            r#"{"end":0,"exceptions":[{"day":8,"end":2,"start":1}],"id":9,"start":0}"#,
-            RowFault::Daypart(DaypartFault::BadWeekday(8)),
-        ),
+    refuse(&rt, alloc, Kind::Campaign, edit, campaigns.as_slice())?;
+    let dayparts = [(
+        r#"{"end":0,"exceptions":[{"day":8,"end":2,"start":1}],"id":9,"start":0}"#,
+        RowFault::Daypart(DaypartFault::BadWeekday(8)),
+    )];
+    refuse(&rt, alloc, Kind::Daypart, edit, dayparts.as_slice())
+}
+
+#[test]
+fn what_version_1_cannot_say_is_later(rt: HostRuntime) -> Result<(), Fail> {
+    let alloc = rt.alloc();
+    let dates = [(r#"{"dates":0}"#, RowFault::Later)];
+    refuse(
+        &rt,
+        alloc,
+        Kind::Daypart,
+        RowForm::Version1,
+        dates.as_slice(),
+    )?;
+    let weekday = [(r#"{"repeat":{"unit":"month-weekday"}}"#, RowFault::Later)];
+    refuse(
+        &rt,
+        alloc,
+        Kind::Event,
+        RowForm::Version1,
+        weekday.as_slice(),
+    )?;
+    let layered = [
+        (LAYERED, RowFault::Later),
+        (r#"{"layer":1}"#, RowFault::Shape),
     ];
-    refuse(&rt, alloc, Kind::Daypart, dayparts.as_slice())
+    refuse(
+        &rt,
+        alloc,
+        Kind::Event,
+        RowForm::Version1,
+        layered.as_slice(),
+    )?;
+    let dated = [(UNDATED, RowFault::Shape)];
+    refuse(
+        &rt,
+        alloc,
+        Kind::Daypart,
+        RowForm::Version2,
+        dated.as_slice(),
+    )?;
+    let flat = [(FLAT, RowFault::Shape), (r#"{"layer":1}"#, RowFault::Later)];
+    refuse(&rt, alloc, Kind::Event, RowForm::Version2, flat.as_slice())
 }
