@@ -6,4 +6,5 @@ pub mod OrderLemmas
 pub mod JsonLemmas
 pub mod TextLemmas
 pub mod WholeAgain
+pub mod DraftLemmas
 pub mod ReadLemmas

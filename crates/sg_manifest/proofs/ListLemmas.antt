@@ -13,19 +13,12 @@ use Rattle.sg_rows.specs.declared.fault.RowFault.{RowFault}
 use Rattle.sg_base.specs.declared.kind.Kind.{Kind}
 use Rattle.sg_base.specs.declared.kind.LimitName.{LimitName}
 use Rattle.sg_rows.specs.Faults.{◌>>=◌, needs}
+use Rattle.sg_rows.proofs.BindLemmas.{bind_ok, needs_ok}
 use Rattle.sg_rows.specs.Parts.{count_of_items, member_at, items_at, with_front}
 use Rattle.sg_manifest.specs.declared.fault.ManifestFault.{ManifestFault}
 use Rattle.sg_manifest.specs.declared.fault.ManifestFault.TheVariants.{Double, Limit}
 use Rattle.sg_manifest.specs.Faults.{in_entry}
 use Rattle.sg_manifest.specs.Reading.{entries_at, rows_at}
-
-pub bind_ok : {F A B : Type 0} (r : Result A F) (k : A → Result B F) (y : B) → (r >>= k) ≡ Ok y → (x : A) × (r ≡ Ok x) × (k x ≡ Ok y)
-bind_ok (Ok x) k y e = (x, refl, e)
-bind_ok (Err f) k y e = absurd (cc)
-
-needs_ok : {F : Type 0} (b : Bool) (f : F) (u : Unit {0}) → needs b f ≡ Ok u → b ≡ true
-needs_ok true f u e = refl
-needs_ok false f u e = absurd (cc)
 
 not_false : (b : Bool) → not b ≡ true → b ≡ false
 not_false true e = absurd (cc)

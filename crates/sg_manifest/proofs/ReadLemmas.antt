@@ -26,12 +26,17 @@ use Rattle.sg_rows.specs.Rows.{IsCampaignRow, IsDaypartRow, IsEventRow, IsLayout
 use Rattle.sg_rows.specs.Order.{sorted_by}
 use Rattle.sg_rows.proofs.OrderLemmas.{all_sorted, sorted_rises, sorted_moves}
 use Rattle.sg_manifest.specs.declared.fault.ManifestFault.{ManifestFault}
-use Rattle.sg_manifest.specs.declared.fault.ManifestFault.TheVariants.{Dangling, NotCanonical}
-use Rattle.sg_manifest.specs.Snapshot.{SnapshotRow, IsSnapshot, HasValidRows, IsInOrder, HasAllNamed, IsWithinLimits, HasMedia, HasLayouts, IsTargetIn, IsWhenIn, layout_ids, campaign_ids, daypart_ids, event_ids, file_ids}
-use Rattle.sg_manifest.specs.Text.{text}
+use Rattle.sg_manifest.specs.declared.fault.ManifestFault.TheVariants.{Dangling, Limit, NotCanonical}
+use Rattle.sg_base.specs.declared.kind.LimitName.TheVariants.{Text}
+use Rattle.sg_manifest.specs.Snapshot.{SnapshotRow, IsSnapshot, form_of, HasValidRows, IsInOrder, HasAllNamed, IsWithinLimits, HasMedia, HasLayouts, IsTargetIn, IsWhenIn, layout_ids, campaign_ids, daypart_ids, event_ids, file_ids}
+use Rattle.sg_manifest.specs.Text.{text, IsManifest}
 use Rattle.sg_manifest.specs.Fitting.{IsDraft, IsApart}
-use Rattle.sg_manifest.specs.Reading.{missing, missing_media, missing_file, missing_layout, missing_target, missing_daypart, missing_in_target, missing_in_when, dangling, ordered, common, canonical, rows_of, manifest_at}
+use Rattle.sg_manifest.specs.Reading.{missing, missing_media, missing_file, missing_layout, missing_target, missing_daypart, missing_in_target, missing_in_when, none_of, dangling, ordered, common, canonical, json_at, draft_at, rows_of, manifest_at}
 use Rattle.sg_manifest.proofs.OrderLemmas.{increasing_from_rises}
+use Rattle.sg_rows.specs.Faults.{needs}
+use Rattle.sg_rows.proofs.BindLemmas.{bind_ok, needs_ok}
+use borrow.Author.Tests.{leb-true}
+use Rattle.sg_manifest.proofs.DraftLemmas.{draft_valid}
 use Rattle.sg_manifest.proofs.WholeAgain.{json_again, draft_again, ordered_again}
 
 -- ---- what isn't missing is there, in whatever order
@@ -102,13 +107,14 @@ few_sorted key xs n h = omega (arith, length_permutation xs (sorted_by key xs) (
 
 pub snapshot_valid : (s : SnapshotRow) → IsDraft s → dangling s ≡ None → IsSnapshot (ordered s)
 snapshot_valid s h e = record {
+  version = h.version;
   zone = h.zone;
   default = h.default;
   rows = record {
     layouts = all_sorted IsLayoutRow (λ l. l.id.0) s.layouts h.rows.layouts;
     campaigns = all_sorted IsCampaignRow (λ c. c.id.0) s.campaigns h.rows.campaigns;
-    dayparts = all_sorted IsDaypartRow (λ d. d.id.0) s.dayparts h.rows.dayparts;
-    events = all_sorted IsEventRow (λ e. e.id.0) s.events h.rows.events;
+    dayparts = all_sorted (IsDaypartRow (form_of s.version)) (λ d. d.id.0) s.dayparts h.rows.dayparts;
+    events = all_sorted (IsEventRow (form_of s.version)) (λ e. e.id.0) s.events h.rows.events;
     files = all_sorted IsListed (λ f. f.media.0) s.files h.rows.files;
   };
   order = record {
@@ -202,12 +208,32 @@ rows_again : (s : SnapshotRow) → IsSnapshot s → rows_of (text s) ≡ Ok s
 unfolding rows_of
 rows_again s h = rw (json_again s h) (draft_again s h)
 
-pub manifest_again : (bytes : List ℕ) (s : SnapshotRow) → IsSnapshot s → length bytes ≤ MANIFEST_TEXT → bytes ≡ text s → manifest_at bytes ≡ Ok s
+pub manifest_again : (bytes : List ℕ) (s : SnapshotRow) → IsManifest bytes s → manifest_at bytes ≡ Ok s
 unfolding manifest_at
-manifest_again bytes s h short e =
+manifest_again bytes s h =
     rw (
-      ap rows_of e ∙ rows_again s h,
-      dangling_none s h.named,
-      le-leb (length bytes) MANIFEST_TEXT short,
-      ordered_again s h,
-    ) (canonical_same bytes s e)
+      ap rows_of h.is ∙ rows_again s h.valid,
+      dangling_none s h.valid.named,
+      le-leb (length bytes) MANIFEST_TEXT h.short,
+      ordered_again s h.valid,
+    ) (canonical_same bytes s h.is)
+
+none_of_ok : (o : Option ManifestFault) (u : Unit {0}) → none_of o ≡ Ok u → o ≡ None
+none_of_ok None u e = refl
+none_of_ok (Some f) u e = absurd (cc)
+
+-- what is read is the valid snapshot whose text the bytes are
+pub manifest_found : (bytes : List ℕ) (t : SnapshotRow) → manifest_at bytes ≡ Ok t → IsManifest bytes t
+unfolding manifest_at rows_of
+manifest_found bytes t e =
+    let rows = bind_ok (rows_of bytes) _ t e in
+    let s = rows.0 in
+    let json = bind_ok (json_at bytes) draft_at s rows.1 in
+    let named = bind_ok (none_of (dangling s)) _ t rows.2 in
+    let short = bind_ok (needs (nat_le (length bytes) MANIFEST_TEXT) (Limit Text (length bytes))) _ t named.2 in
+    let parts = canonical_if (bytes_eq bytes (text (ordered s))) (ordered s) t (NotCanonical (common bytes (text (ordered s)))) short.2 in
+    record {
+      valid = subst IsSnapshot parts.1 (snapshot_valid s (draft_valid json.0 s json.2) (none_of_ok (dangling s) named.0 named.1));
+      is = text_of_canonical bytes (ordered s) t short.2;
+      short = leb-true (length bytes) MANIFEST_TEXT (needs_ok (nat_le (length bytes) MANIFEST_TEXT) (Limit Text (length bytes)) short.0 short.1);
+    }

@@ -1,6 +1,8 @@
 -- The JSON of a valid snapshot is plain and reads as the snapshot, so its text is of no other.
-use Rattle.std.proofs.Common.{◌≡◌, ℕ, ◌<◌, ◌≤◌, nat_le, true, false, List, length, Result, Ok, refl, sym, ap, ◌∙◌, map, arith, le-leb}
-use Rattle.std.specs.Prelude.{Some, None, Option}
+use Rattle.std.proofs.Common.{◌≡◌, ◌≢◌, ℕ, ◌^◌, ◌<◌, ◌≤◌, ◌==◌, nat_le, Bool, true, false, IsTrue, lt-ltb, List, length, Result, Ok, refl, sym, ap, ◌∙◌, map, arith, le-leb}
+use Rattle.std.specs.Prelude.{Some, None, Option, if◌then◌else◌}
+use Rattle.std.proofs.lemmas.Bool.Decides.{nat_tests}
+use Rattle.sg_rows.specs.declared.form.RowForm.TheVariants.{Version1, Version2, Edit}
 use Rattle.std.specs.Str.{is_utf8, bytes_eq}
 use Rattle.std.specs.List.{AllByRecursion, IsDistinct}
 use Rattle.std.specs.List.Sorted.{IsStrictlyIncreasing}
@@ -20,25 +22,36 @@ use Rattle.sg_rows.proofs.OrderLemmas.{Rises, sorted_again}
 use Rattle.sg_rows.proofs.AgainRows.{id_again, layout_again, file_again}
 use Rattle.sg_rows.proofs.AgainSchedules.{campaign_again, daypart_again, event_again, zone_again}
 use Rattle.sg_manifest.specs.declared.fault.ManifestFault.{ManifestFault}
-use Rattle.sg_manifest.specs.Snapshot.{SnapshotRow, IsSnapshot, layout_ids, campaign_ids, daypart_ids, event_ids, file_ids}
+use Rattle.sg_manifest.specs.Snapshot.{SnapshotRow, IsSnapshot, is_version, form_of, layout_ids, campaign_ids, daypart_ids, event_ids, file_ids}
 use Rattle.sg_manifest.specs.Text.{snapshot_json, text}
 use Rattle.sg_manifest.specs.Reading.{json_at, version_at, members_at, draft_at, ordered}
 use Rattle.sg_manifest.proofs.ListLemmas.{counted_items, list_again}
 use Rattle.sg_manifest.proofs.OrderLemmas.{rises_from_increasing, distinct_from_rises}
+
+version_fits : (version : ℕ) → IsTrue (is_version version) → version < 2 ^ 32
+version_fits version h = grind (arith, nat_tests)
+
+version_small : (version : ℕ) → IsTrue (is_version version) → version < 2 ^ 64
+version_small version h = grind (arith, nat_tests)
+
+-- no version is the form of an edit
+listed : (b : Bool) → (if b then Version1 else Version2) ≢ Edit
+listed true same = absurd (cc)
+listed false same = absurd (cc)
 
 pub snapshot_sound : (s : SnapshotRow) → IsSnapshot s → Sound 7 (snapshot_json s)
 snapshot_sound s h =
     Sound-object refl (
       Sound-list campaign_sound s.campaigns h.rows.campaigns,
       (
-        Sound-list daypart_sound s.dayparts h.rows.dayparts,
+        Sound-list (daypart_sound (form_of s.version)) s.dayparts h.rows.dayparts,
         (
           id_sound _ h.default,
           (
-            Sound-list event_sound s.events h.rows.events,
+            Sound-list (event_sound (form_of s.version)) s.events h.rows.events,
             (
               Sound-list file_sound s.files h.rows.files,
-              (Sound-list layout_sound s.layouts h.rows.layouts, (Sound-unsigned 1 (omega arith), (zone_sound s.zone h.zone, tt))),
+              (Sound-list layout_sound s.layouts h.rows.layouts, (Sound-unsigned s.version (version_small s.version h.version), (zone_sound s.zone h.zone, tt))),
             ),
           ),
         ),
@@ -55,9 +68,11 @@ no_float s d e h = rw e (has_float-Sound (snapshot_sound s h))
 distinct : {A : Type 0} (key : A → ℕ) (xs : List A) → IsStrictlyIncreasing (map key xs) → IsDistinct (same key) xs
 distinct key xs h = distinct_from_rises key xs (rises_from_increasing key xs h)
 
-version_again : (s : SnapshotRow) → version_at (snapshot_json s) ≡ Ok tt
+version_again : (s : SnapshotRow) → IsSnapshot s → version_at (snapshot_json s) ≡ Ok s.version
 unfolding version_at
-version_again s = refl
+version_again s h =
+    let small : s.version < 2 ^ 32 = version_fits s.version h.version in
+    rw (lt-ltb s.version (2 ^ 32) small, h.version) refl
 
 members_again : (s : SnapshotRow) → IsSnapshot s → members_at (snapshot_json s) ≡ Ok s.default
 unfolding members_at
@@ -67,7 +82,7 @@ pub draft_again : (s : SnapshotRow) → IsSnapshot s → draft_at (snapshot_json
 unfolding draft_at
 draft_again s h =
     rw (
-      version_again s,
+      version_again s h,
       members_again s h,
       zone_again s.zone h.zone,
       counted_items file_json s.files,
@@ -79,12 +94,12 @@ draft_again s h =
       counted_items campaign_json s.campaigns,
       le-leb (length s.campaigns) MANIFEST_CAMPAIGNS h.few.campaigns,
       list_again campaign_json campaign_at IsCampaignRow campaign_again 3 Campaign (λ c. c.id.0) s.campaigns h.rows.campaigns (distinct (λ c. c.id.0) s.campaigns h.order.campaigns),
-      counted_items daypart_json s.dayparts,
+      counted_items (daypart_json (form_of s.version)) s.dayparts,
       le-leb (length s.dayparts) MANIFEST_DAYPARTS h.few.dayparts,
-      list_again daypart_json daypart_at IsDaypartRow daypart_again 4 Daypart (λ d. d.id.0) s.dayparts h.rows.dayparts (distinct (λ d. d.id.0) s.dayparts h.order.dayparts),
-      counted_items event_json s.events,
+      list_again (daypart_json (form_of s.version)) (daypart_at (form_of s.version)) (IsDaypartRow (form_of s.version)) (daypart_again (form_of s.version)) 4 Daypart (λ d. d.id.0) s.dayparts h.rows.dayparts (distinct (λ d. d.id.0) s.dayparts h.order.dayparts),
+      counted_items (event_json (form_of s.version)) s.events,
       le-leb (length s.events) MANIFEST_EVENTS h.few.events,
-      list_again event_json event_at IsEventRow event_again 5 Event (λ e. e.id.0) s.events h.rows.events (distinct (λ e. e.id.0) s.events h.order.events),
+      list_again (event_json (form_of s.version)) (event_at (form_of s.version)) (IsEventRow (form_of s.version)) (λ e v. event_again (form_of s.version) e (listed (s.version == 1)) v) 5 Event (λ e. e.id.0) s.events h.rows.events (distinct (λ e. e.id.0) s.events h.order.events),
     ) refl
 
 -- a valid snapshot is in order

@@ -30,7 +30,7 @@ use Rattle.sg_rows.specs.Reading.{file_at, layout_at, campaign_at, daypart_at, e
 use Rattle.sg_manifest.specs.declared.fault.ManifestFault.{ManifestFault}
 use Rattle.sg_manifest.specs.declared.fault.ManifestFault.TheVariants.{NotJson, Limit, Dangling, Double, Version, NotCanonical}
 use Rattle.sg_manifest.specs.Faults.{in_entry}
-use Rattle.sg_manifest.specs.Snapshot.{SnapshotRow, layout_ids, campaign_ids, daypart_ids, file_ids}
+use Rattle.sg_manifest.specs.Snapshot.{SnapshotRow, is_version, form_of, layout_ids, campaign_ids, daypart_ids, file_ids}
 use Rattle.sg_manifest.specs.Text.{text}
 
 -- ---- the top
@@ -39,11 +39,12 @@ use Rattle.sg_manifest.specs.Text.{text}
 unfoldable pub json_at : List ℕ → Result Data ManifestFault
 json_at bytes = if is_utf8 bytes then wants (read bytes) NotJson else Err NotJson
 
--- a whole number `version`, which is 1
-unfoldable pub version_at : Data → Result (Unit {0}) ManifestFault
+-- a whole number `version`, which is one of the two
+unfoldable pub version_at : Data → Result ℕ ManifestFault
 version_at d = do
   n ← in_entry 0 0 (member_at number_at (codes "version") d)
-  needs (n == 1) (Version n)
+  known ← needs (is_version n) (Version n)
+  Ok n
 
 -- the eight members and no other, each of its JSON type; the answer is the default layout
 unfoldable pub members_at : Data → Result LayoutId RowFault
@@ -126,6 +127,7 @@ none_of (Some fault) = Err fault
 -- each list by ascending id
 abbrev pub ordered : SnapshotRow → SnapshotRow
 ordered s = record {
+  version = s.version;
   zone = s.zone;
   default = s.default;
   layouts = sorted_by (λ l. l.id.0) s.layouts;
@@ -147,7 +149,7 @@ canonical bytes s = if bytes_eq bytes (text s) then Ok s else Err (NotCanonical 
 
 -- ---- the whole
 
--- the rows, each valid by itself, in the order in which they stand
+-- the rows, each valid by itself in the form of the version, in the order in which they stand
 unfoldable pub draft_at : Data → Result SnapshotRow ManifestFault
 draft_at d = do
   version ← version_at d
@@ -156,9 +158,18 @@ draft_at d = do
   files ← rows_at 1 Files MANIFEST_FILES Media file_at (λ f. f.media.0) (codes "files") d
   layouts ← rows_at 2 Layouts MANIFEST_LAYOUTS Layout layout_at (λ l. l.id.0) (codes "layouts") d
   campaigns ← rows_at 3 Campaigns MANIFEST_CAMPAIGNS Campaign campaign_at (λ c. c.id.0) (codes "campaigns") d
-  dayparts ← rows_at 4 Dayparts MANIFEST_DAYPARTS Daypart daypart_at (λ d. d.id.0) (codes "dayparts") d
-  events ← rows_at 5 Events MANIFEST_EVENTS Event event_at (λ e. e.id.0) (codes "events") d
-  Ok (record { zone = zone; default = default; layouts = layouts; campaigns = campaigns; dayparts = dayparts; events = events; files = files })
+  dayparts ← rows_at 4 Dayparts MANIFEST_DAYPARTS Daypart (daypart_at (form_of version)) (λ d. d.id.0) (codes "dayparts") d
+  events ← rows_at 5 Events MANIFEST_EVENTS Event (event_at (form_of version)) (λ e. e.id.0) (codes "events") d
+  Ok (record {
+    version = version;
+    zone = zone;
+    default = default;
+    layouts = layouts;
+    campaigns = campaigns;
+    dayparts = dayparts;
+    events = events;
+    files = files;
+  })
 
 unfoldable pub rows_of : List ℕ → Result SnapshotRow ManifestFault
 rows_of bytes = do

@@ -45,6 +45,7 @@ hourly = record {
 
 unfoldable pub sample : SnapshotRow
 sample = record {
+  version = 1;
   zone = Posix (codes "CET-1CEST,M3.5.0,M10.5.0/3");
   default = record { 0 = 1 };
   layouts = (record {

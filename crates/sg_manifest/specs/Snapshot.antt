@@ -1,5 +1,5 @@
 -- What a manifest says, and when that is valid.
-use Rattle.std.specs.Prelude.{ℕ, ◌≤◌, List, length, map, Contains}
+use Rattle.std.specs.Prelude.{ℕ, ◌≤◌, ◌==◌, ◌||◌, Bool, IsTrue, if◌then◌else◌, List, length, map, Contains}
 use Rattle.std.specs.List.{AllByRecursion}
 use Rattle.std.specs.List.Sorted.{IsStrictlyIncreasing}
 use Rattle.sg_base.specs.declared.limits.TheConstants.{MANIFEST_FILES, MANIFEST_LAYOUTS, MANIFEST_CAMPAIGNS, MANIFEST_DAYPARTS, MANIFEST_EVENTS}
@@ -15,10 +15,21 @@ use Rattle.sg_base.specs.declared.zone.ZoneRule.{ZoneRule}
 use Rattle.sg_base.specs.Layout.{LayoutRow}
 use Rattle.sg_base.specs.Daypart.{DaypartRow}
 use Rattle.sg_base.specs.Event.{EventValue}
+use Rattle.sg_rows.specs.declared.form.RowForm.{RowForm}
+use Rattle.sg_rows.specs.declared.form.RowForm.TheVariants.{Version1, Version2}
 use Rattle.sg_rows.specs.Zone.{IsZone}
 use Rattle.sg_rows.specs.Rows.{IsId, IsLayoutRow, IsCampaignRow, IsDaypartRow, IsEventRow, IsListed}
 
+-- there are two versions of the text
+abbrev pub is_version : ℕ → Bool
+is_version version = (version == 1) || (version == 2)
+
+-- the form in which the rows of a version stand
+abbrev pub form_of : ℕ → RowForm
+form_of version = if version == 1 then Version1 else Version2
+
 pub record SnapshotRow : Type 0 where
+  pub version : ℕ
   pub zone : ZoneRule
   pub default : LayoutId
   pub layouts : List LayoutRow
@@ -43,12 +54,12 @@ event_ids s = map (λ e. e.id.0) s.events
 abbrev pub file_ids : SnapshotRow → List ℕ
 file_ids s = map (λ f. f.media.0) s.files
 
--- each row is accepted by its constructor
+-- each row is accepted by its constructor, and the version can say it
 pub record HasValidRows (s : SnapshotRow) : Type 0 where
   pub layouts : AllByRecursion IsLayoutRow s.layouts
   pub campaigns : AllByRecursion IsCampaignRow s.campaigns
-  pub dayparts : AllByRecursion IsDaypartRow s.dayparts
-  pub events : AllByRecursion IsEventRow s.events
+  pub dayparts : AllByRecursion (IsDaypartRow (form_of s.version)) s.dayparts
+  pub events : AllByRecursion (IsEventRow (form_of s.version)) s.events
   pub files : AllByRecursion IsListed s.files
 
 -- each list ascends by id, so ids are distinct
@@ -105,6 +116,7 @@ pub record IsWithinLimits (s : SnapshotRow) : Type 0 where
 
 -- a valid snapshot
 pub record IsSnapshot (s : SnapshotRow) : Type 0 where
+  pub version : IsTrue (is_version s.version)
   pub zone : IsZone s.zone
   pub default : IsId s.default.0
   pub rows : HasValidRows s

@@ -1,6 +1,6 @@
 //! The rows of a manifest, from JSON.
 
-ghost use Rattle.std.specs.Prelude.{IfOk, codes};
+ghost use Rattle.std.specs.Prelude.{◌≡◌, IfOk, IsTrue, codes};
 ghost use Rattle.serde_json.specs.View.{view};
 ghost use Rattle.sg_rows.specs.Faults.{Gives as RowGives};
 ghost use Rattle.sg_rows.specs.Parts.{member_at};
@@ -8,6 +8,7 @@ ghost use Rattle.sg_rows.specs.Reading.{zone_at};
 ghost use Rattle.sg_rows.specs.Rows.{IsId};
 ghost use Rattle.sg_rows.specs.Zone.{IsZone};
 ghost use Rattle.sg_manifest.specs.Faults.{Gives};
+ghost use Rattle.sg_manifest.specs.Snapshot.{is_version, form_of};
 ghost use Rattle.sg_manifest.specs.Reading.{version_at, members_at};
 
 use crate::fault::ManifestFault;
@@ -15,19 +16,31 @@ use crate::lists::{CAMPAIGNS, DAYPARTS, EVENTS, FILES, LAYOUTS, read_rows};
 use crate::snapshot::Draft;
 use serde_json::Value;
 use sg_base::{LayoutId, Rows, ZoneRule};
-use sg_rows::{RowFault, part, read_zone};
+use sg_rows::{RowFault, RowForm, part, read_zone};
 use std::alloc::Global;
 
-/// The version of the text, which is 1.
+/// The version of the text, 1 or 2.
 #[tactic(auto, unfolding(crate::specs::Reading::version_at))]
-fn version(value: &Value) -> Result<(), ManifestFault>
-    ensures { Gives (λ one. one) result (version_at (view value.now)) }
+fn read_version(value: &Value) -> Result<u32, ManifestFault>
+    ensures gives { Gives (λ n. n) result (version_at (view value.now)) }
+    ensures known { IfOk result (λ n. IsTrue (is_version n)) }
 {
     let version = part::number(value, "version")?;
-    if version == 1 {
-        Ok(())
+    if version == 1 || version == 2 {
+        Ok(version)
     } else {
         Err(ManifestFault::Version(version))
+    }
+}
+
+/// The form in which the rows of a version stand.
+pub(crate) fn form_of(version: u32) -> RowForm
+    ensures { result ≡ form_of version }
+{
+    if version == 1 {
+        RowForm::Version1
+    } else {
+        RowForm::Version2
     }
 }
 
@@ -65,15 +78,17 @@ impl Draft {
         ensures gives { Gives (λ s. s) result (draft_at (view value.now)) }
         ensures sound { IfOk result IsDraft }
     {
-        version(value)?;
+        let version = read_version(value)?;
+        let form = form_of(version);
         let default = members(value)?;
         let zone = zone(alloc, value)?;
-        let files = read_rows(alloc, value, "files", &FILES)?;
-        let layouts = read_rows(alloc, value, "layouts", &LAYOUTS)?;
-        let campaigns = read_rows(alloc, value, "campaigns", &CAMPAIGNS)?;
-        let dayparts = read_rows(alloc, value, "dayparts", &DAYPARTS)?;
-        let events = read_rows(alloc, value, "events", &EVENTS)?;
+        let files = read_rows(alloc, value, "files", &FILES, form)?;
+        let layouts = read_rows(alloc, value, "layouts", &LAYOUTS, form)?;
+        let campaigns = read_rows(alloc, value, "campaigns", &CAMPAIGNS, form)?;
+        let dayparts = read_rows(alloc, value, "dayparts", &DAYPARTS, form)?;
+        let events = read_rows(alloc, value, "events", &EVENTS, form)?;
         Ok(Draft {
+            version,
             zone,
             default,
             layouts: Rows::from_vec(layouts),

@@ -44,7 +44,7 @@ pub enum ManifestFault {
         kind: Kind,
         id: u32,
     },
-    /// The version isn't 1.
+    /// The version is neither 1 nor 2.
     #[error("the version is {0}")]
     Version(u32),
     /// The bytes aren't the canonical text of what they say. They have this many first bytes in common with it.

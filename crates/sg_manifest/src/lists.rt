@@ -15,7 +15,7 @@ use sg_base::limits::{
     MANIFEST_CAMPAIGNS, MANIFEST_DAYPARTS, MANIFEST_EVENTS, MANIFEST_FILES, MANIFEST_LAYOUTS,
 };
 use sg_base::{Kind, LimitName};
-use sg_rows::{Entry, Keyed, RowFault, part};
+use sg_rows::{ManifestRow, RowFault, RowForm, part};
 use std::alloc::Global;
 
 /// How a list of a manifest is numbered, named and limited, and of which kind its rows are.
@@ -63,16 +63,17 @@ pub(crate) const EVENTS: ListRule = ListRule {
 
 /// The entry at an index of a list.
 #[tactic(auto, using(crate::proofs::FaultLemmas::entry_exit))]
-fn read_entry<T: Entry>(
+fn read_entry<T: ManifestRow>(
     alloc: Global,
+    form: RowForm,
     value: &Value,
     list: u32,
     index: u32,
 ) -> Result<T, ManifestFault>
-    ensures gives { Gives (λ x. x) result (in_entry list index (T.at (view value.now))) }
-    ensures sound { IfOk result T.valid }
+    ensures gives { Gives (λ x. x) result (in_entry list index (T.at form (view value.now))) }
+    ensures sound { IfOk result (T.valid form) }
 {
-    match T::read(alloc, value) {
+    match T::read(alloc, form, value) {
         Ok(row) => Ok(row),
         Err(fault) => Err(in_entry(list, index, fault)),
     }
@@ -86,21 +87,23 @@ fn is_seen(seen: &[u32], id: u32) -> bool
 }
 
 /// Each entry of a list, in one pass. The longest list that a manifest may have is that of events.
-fn read_entries<T: Keyed>(
+fn read_entries<T: ManifestRow>(
     alloc: Global,
     items: &[Value],
     rule: &ListRule,
+    form: RowForm,
 ) -> Result<Vec<T>, ManifestFault>
     requires { length items.now ≤ MANIFEST_EVENTS }
-    ensures gives { Gives (λ v. v.items) result (entries_at rule.now.list rule.now.kind T.at T.key 0 [] (items_view items.now)) }
-    ensures sound { IfOk result (λ v. AllByRecursion T.valid v.items) }
+    ensures gives { Gives (λ v. v.items) result
+        (entries_at rule.now.list rule.now.kind (T.at form) T.key 0 [] (items_view items.now)) }
+    ensures sound { IfOk result (λ v. AllByRecursion (T.valid form) v.items) }
     ensures long { IfOk result (λ v. length v.items ≡ length items.now) }
     ensures apart { IfOk result (λ v. IsDistinct (same_number T.key) v.items) }
 {
     let mut rows = Vec::new(alloc);
     let mut seen = Vec::new(alloc);
     for (index, item) in items.iter().enumerate() {
-        let row: T = read_entry(alloc, item, rule.list, index as u32)?;
+        let row: T = read_entry(alloc, form, item, rule.list, index as u32)?;
         let id = row.key();
         if is_seen(seen.as_slice(), id) {
             return Err(ManifestFault::Double {
@@ -121,15 +124,18 @@ fn member_items<'v>(value: &'v Value, name: &str) -> Result<&'v [Value], RowFaul
 }
 
 /// The rows of the list that is the member of this name. Its limit is looked at before its entries.
-pub(crate) fn read_rows<T: Keyed>(
+pub(crate) fn read_rows<T: ManifestRow>(
     alloc: Global,
     value: &Value,
     name: &str,
     rule: &ListRule,
+    form: RowForm,
 ) -> Result<Vec<T>, ManifestFault>
     requires { rule.now.most ≤ MANIFEST_EVENTS }
-    ensures gives { Gives (λ v. v.items) result (rows_at rule.now.list rule.now.name rule.now.most rule.now.kind T.at T.key name.now (view value.now)) }
-    ensures sound { IfOk result (λ v. AllByRecursion T.valid v.items) }
+    ensures gives { Gives (λ v. v.items) result
+        (rows_at rule.now.list rule.now.name rule.now.most rule.now.kind (T.at form) T.key
+        name.now (view value.now)) }
+    ensures sound { IfOk result (λ v. AllByRecursion (T.valid form) v.items) }
     ensures few { IfOk result (λ v. length v.items ≤ rule.now.most) }
     ensures apart { IfOk result (λ v. IsDistinct (same_number T.key) v.items) }
 {
@@ -140,5 +146,5 @@ pub(crate) fn read_rows<T: Keyed>(
             count: items.len() as u64,
         });
     }
-    read_entries(alloc, items, rule)
+    read_entries(alloc, items, rule, form)
 }

@@ -8,11 +8,11 @@ ghost use Rattle.sg_manifest.specs.Reading.{missing as missing_of, missing_media
 use crate::fault::ManifestFault;
 use crate::snapshot::Draft;
 use sg_base::{Campaign, Daypart, Event, Kind, Layout, Listed, Region, Target, When, index_of};
-use sg_rows::Keyed;
+use sg_rows::ManifestRow;
 use std::alloc::{AllocError, Global};
 
 /// The ids of rows, ascending.
-fn ids_of<T: Keyed>(alloc: Global, rows: &[T]) -> Result<Vec<u32>, AllocError>
+fn ids_of<T: ManifestRow>(alloc: Global, rows: &[T]) -> Result<Vec<u32>, AllocError>
     ensures same { IfOk result (λ ids. IsPermutation (map T.key rows.now) ids.items) }
     ensures rising { IfOk result (λ ids. IsNonDecreasing ids.items) }
 {

@@ -6,10 +6,10 @@ ghost use Rattle.sg_rows.specs.Order.{same_number, sorted_by};
 
 use crate::snapshot::Draft;
 use sg_base::Rows;
-use sg_rows::Keyed;
+use sg_rows::ManifestRow;
 
 /// Rows by ascending id. It takes no memory, and where they ascend already it only looks at each.
-fn by_id<T: Keyed>(rows: Rows<T>) -> Rows<T>
+fn by_id<T: ManifestRow>(rows: Rows<T>) -> Rows<T>
     requires { IsDistinct (same_number T.key) rows }
     ensures { result ≡ sorted_by T.key rows }
 {
@@ -28,6 +28,7 @@ impl Draft {
         ensures { result ≡ ordered self }
     {
         let Draft {
+            version,
             zone,
             default,
             layouts,
@@ -37,6 +38,7 @@ impl Draft {
             files,
         } = self;
         Draft {
+            version,
             zone,
             default,
             layouts: by_id(layouts),

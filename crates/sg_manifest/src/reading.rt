@@ -1,9 +1,9 @@
 //! From bytes to a snapshot.
 
-ghost use Rattle.std.specs.Prelude.{◌≡◌, ◌≤◌, nat_le, length, IfOk, OnOk, Ok, None};
+ghost use Rattle.std.specs.Prelude.{◌≡◌, ℕ, ◌≤◌, List, nat_le, length, IfOk, OnOk, Ok, None};
 ghost use Rattle.serde_json.specs.View.{view};
 ghost use Rattle.sg_manifest.specs.Snapshot.{SnapshotRow, IsSnapshot};
-ghost use Rattle.sg_manifest.specs.Text.{text};
+ghost use Rattle.sg_manifest.specs.Text.{text, IsManifest};
 ghost use Rattle.sg_manifest.specs.Faults.{Gives};
 ghost use Rattle.sg_manifest.specs.Fitting.{IsDraft};
 ghost use Rattle.sg_manifest.specs.Reading.{json_at, rows_of, none_of, dangling, canonical, manifest_at};
@@ -90,8 +90,7 @@ fn short(bytes: &[u8]) -> Result<(), ManifestFault>
 #[tactic(auto, unfolding(crate::specs::Reading::manifest_at))]
 fn checked(alloc: Global, bytes: &[u8]) -> Result<Snapshot, ManifestFault>
     ensures exact { Gives (λ s. s) result (manifest_at bytes.now) }
-    ensures found { IfOk result
-        (λ s. IsSnapshot s × (bytes.now ≡ text s) × (length bytes.now ≤ MANIFEST_TEXT)) }
+    ensures found { IfOk result (IsManifest bytes.now) }
 {
     let draft = rows(alloc, bytes)?;
     nothing_missing(alloc, &draft)?;
@@ -105,11 +104,9 @@ pub fn read(alloc: Global, bytes: &[u8]) -> Result<Snapshot, ManifestFault>
     // Which snapshot, or which fault with all its fields. A row's fault inside is never want of memory.
     ensures exact { Gives (λ s. s) result (manifest_at bytes.now) }
     // What is read is the valid snapshot whose text the bytes are. That it is valid is a fact of its type, too.
-    ensures found { IfOk result
-        (λ s. IsSnapshot s × (bytes.now ≡ text s) × (length bytes.now ≤ MANIFEST_TEXT)) }
+    ensures found { IfOk result (IsManifest bytes.now) }
     // The text of each valid snapshot is read, unless memory runs out.
-    ensures only { (s : SnapshotRow) → IsSnapshot s → length bytes.now ≤ MANIFEST_TEXT →
-        bytes.now ≡ text s → Gives (λ t. t) result (Ok s) }
+    ensures only { (s : SnapshotRow) → IsManifest bytes.now s → Gives (λ t. t) result (Ok s) }
 {
     checked(alloc, bytes)
 }
@@ -117,4 +114,11 @@ pub fn read(alloc: Global, bytes: &[u8]) -> Result<Snapshot, ManifestFault>
 /// No two valid snapshots have one text. It does nothing when it runs; its clause is the law.
 pub fn one_text()
     ensures { (s t : SnapshotRow) → IsSnapshot s → IsSnapshot t → text s ≡ text t → s ≡ t }
+{}
+
+/// The text of each valid snapshot, within the limit, is read as that snapshot, and what is read is the valid snapshot
+/// whose text the bytes are. It does nothing when it runs; its clauses are the laws.
+pub fn reads_text()
+    ensures reads { (bytes : List ℕ) (s : SnapshotRow) → IsManifest bytes s → manifest_at bytes ≡ Ok s }
+    ensures found { (bytes : List ℕ) (s : SnapshotRow) → manifest_at bytes ≡ Ok s → IsManifest bytes s }
 {}

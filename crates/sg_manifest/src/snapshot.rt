@@ -8,14 +8,15 @@ use std::marker::Model;
 
 /// The rows of a manifest, of which nothing is known yet.
 #[derive(Debug, Drop)]
-pub(crate) struct Draft {
-    pub(crate) zone: ZoneRule,
-    pub(crate) default: LayoutId,
-    pub(crate) layouts: Rows<Layout>,
-    pub(crate) campaigns: Rows<Campaign>,
-    pub(crate) dayparts: Rows<Daypart>,
-    pub(crate) events: Rows<Event>,
-    pub(crate) files: Rows<Listed>,
+pub struct Draft {
+    pub version: u32,
+    pub zone: ZoneRule,
+    pub default: LayoutId,
+    pub layouts: Rows<Layout>,
+    pub campaigns: Rows<Campaign>,
+    pub dayparts: Rows<Daypart>,
+    pub events: Rows<Event>,
+    pub files: Rows<Listed>,
 }
 
 impl Model for Draft {
@@ -23,10 +24,10 @@ impl Model for Draft {
 
     ghost Value = { SnapshotRow };
 
-    ghost view = { λ s. record { zone = s.zone; default = s.default; layouts = s.layouts; campaigns = s.campaigns; dayparts = s.dayparts; events = s.events; files = s.files } };
+    ghost view = { λ s. record { version = s.version; zone = s.zone; default = s.default; layouts = s.layouts; campaigns = s.campaigns; dayparts = s.dayparts; events = s.events; files = s.files } };
 }
 
-/// What a display shows: its zone, its default layout, and by ascending id the layouts, campaigns, dayparts,
+/// What a display shows, in a version of the text: its zone, its default layout, and by ascending id the layouts, campaigns, dayparts,
 /// events and files. Every snapshot is valid.
 #[derive(Debug, Drop)]
 pub struct Snapshot {
@@ -47,11 +48,19 @@ impl Snapshot {
     ghost use Rattle.sg_manifest.specs.Snapshot.{IsSnapshot};
 
     /// The snapshot of valid rows.
-    pub(crate) fn new(rows: Draft) -> Snapshot
+    pub fn new(rows: Draft) -> Snapshot
         requires { IsSnapshot rows }
         ensures { result ≡ rows }
     {
         Snapshot { rows }
+    }
+
+    /// The version of its text, 1 or 2.
+    pub fn version(&self) -> u32
+        ensures value { result ≡ self.now.version }
+        ensures valid { IsSnapshot self.now }
+    {
+        self.rows.version
     }
 
     /// The rule by which moments become local seconds.
@@ -124,6 +133,7 @@ impl Clone for Draft {
         let events = self.events.clone()?;
         let files = self.files.clone()?;
         Ok(Draft {
+            version: self.version,
             zone,
             default: self.default,
             layouts,

@@ -6,9 +6,10 @@ ghost use Rattle.sg_manifest.specs.Snapshot.{IsSnapshot};
 ghost use Rattle.sg_manifest.specs.Text.{text, snapshot_json};
 ghost use Rattle.sg_manifest.specs.Reading.{common};
 
+use crate::draft::form_of;
 use crate::snapshot::Snapshot;
 use serde_json::{Value, json};
-use sg_rows::{write_list, write_zone};
+use sg_rows::{write_rows, write_zone};
 use std::alloc::{AllocError, Global};
 
 /// The snapshot as JSON. Its lists are written in one pass each.
@@ -16,11 +17,13 @@ fn value_of(alloc: Global, snapshot: &Snapshot) -> Result<Value, AllocError>
     ensures value { IfOk result (λ v. view v ≡ snapshot_json snapshot.now) }
     ensures valid { IsSnapshot snapshot.now }
 {
-    let campaigns = write_list(alloc, snapshot.campaigns())?;
-    let dayparts = write_list(alloc, snapshot.dayparts())?;
-    let events = write_list(alloc, snapshot.events())?;
-    let files = write_list(alloc, snapshot.files())?;
-    let layouts = write_list(alloc, snapshot.layouts())?;
+    let version = snapshot.version();
+    let form = form_of(version);
+    let campaigns = write_rows(alloc, form, snapshot.campaigns())?;
+    let dayparts = write_rows(alloc, form, snapshot.dayparts())?;
+    let events = write_rows(alloc, form, snapshot.events())?;
+    let files = write_rows(alloc, form, snapshot.files())?;
+    let layouts = write_rows(alloc, form, snapshot.layouts())?;
     let zone = write_zone(alloc, snapshot.zone())?;
     json!(in alloc; {
         "campaigns": campaigns,
@@ -29,7 +32,7 @@ fn value_of(alloc: Global, snapshot: &Snapshot) -> Result<Value, AllocError>
         "events": events,
         "files": files,
         "layouts": layouts,
-        "version": 1u32,
+        "version": version,
         "zone": zone
     })
 }

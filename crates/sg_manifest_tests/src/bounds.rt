@@ -2,9 +2,9 @@
 
 ghost use Rattle.std.specs.Prelude.{◌≤◌};
 
-use crate::texts::{PLAIN, edited};
+use crate::texts::{DATED, PLAIN, edited};
 use sg_base::limits::MANIFEST_EVENTS;
-use sg_base::{Kind, LayoutFault, LimitName};
+use sg_base::{DaypartFault, Kind, LayoutFault, LimitName};
 use sg_manifest::{ManifestFault, read};
 use sg_rows::RowFault;
 use std::alloc::Global;
@@ -38,7 +38,8 @@ fn bytes_that_are_no_object(rt: HostRuntime) {
     expect_bytes(&rt, alloc, b"[]", TOP);
     expect_bytes(&rt, alloc, b"{}", TOP);
     expect_bytes(&rt, alloc, b"{\"version\":1}", TOP);
-    expect_bytes(&rt, alloc, b"{\"version\":2}", ManifestFault::Version(2));
+    expect_bytes(&rt, alloc, b"{\"version\":2}", TOP);
+    expect_bytes(&rt, alloc, b"{\"version\":3}", ManifestFault::Version(3));
 }
 
 #[test]
@@ -187,6 +188,35 @@ fn long_lists(rt: HostRuntime) -> Result<(), Fail> {
     expect_limit(&rt, alloc, "campaigns", 0, 256, LimitName::Campaigns, 3)?;
     expect_limit(&rt, alloc, "dayparts", 0, 64, LimitName::Dayparts, 4)?;
     expect_limit(&rt, alloc, "events", 0, 1024, LimitName::Events, 5)
+}
+
+/// The dated manifest whose daypart has this many dates.
+fn dated(alloc: Global, count: u32) -> Result<String, Fail> {
+    let mut dates = String::new(alloc);
+    for date in 0..count {
+        if date > 0 {
+            dates.push_str(",")?;
+        }
+        let entry = format!(in alloc; "{{\"date\":{date},\"end\":2,\"start\":1}}")?;
+        dates.push_str(entry.as_str())?;
+    }
+    let there =
+        "{\"date\":20148,\"end\":39600,\"start\":36000},{\"date\":20149,\"end\":0,\"start\":0}";
+    edited(alloc, DATED, there, dates.as_str())
+}
+
+#[test]
+fn crowded_dates(rt: HostRuntime) -> Result<(), Fail> {
+    let alloc = rt.alloc();
+    assert!(rt; read(alloc, dated(alloc, 0)?.as_bytes()).is_ok());
+    assert!(rt; read(alloc, dated(alloc, 64)?.as_bytes()).is_ok());
+    let many = ManifestFault::BadField {
+        list: 4,
+        index: 0,
+        fault: RowFault::Daypart(DaypartFault::ManyDates(65)),
+    };
+    expect_bytes(&rt, alloc, dated(alloc, 65)?.as_bytes(), many);
+    Ok(())
 }
 
 /// The plain manifest with so many regions of so many items in its layout, all of one second.

@@ -4,7 +4,7 @@
 //! shown by `Debug`: `OLD -> NEW => FAULT`. Two replacements stand with ` ; ` between them. The faults were worked out by
 //! hand from the order of the checks, and the places of texts that aren't canonical by another program.
 
-use crate::texts::{BUSY, PLAIN, edited};
+use crate::texts::{BUSY, DATED, PLAIN, edited};
 use sg_manifest::read;
 use std::alloc::Global;
 use std::process::Abort;
@@ -99,7 +99,7 @@ const TOPS: &str = r#"
 /// Whole numbers that are no version, and rules of the right form that tell no zone.
 const VERSIONS_AND_ZONES: &str = r#"
 "version":1 -> "version":0 => Version(0)
-"version":1 -> "version":2 => Version(2)
+"version":1 -> "version":3 => Version(3)
 "version":1 -> "version":4294967295 => Version(4294967295)
 {"offset":0} -> {"offset":841} => BadField { list: 0, index: 0, fault: Zone(OffsetRange(841)) }
 {"offset":0} -> {"offset":-841} => BadField { list: 0, index: 0, fault: Zone(OffsetRange(-841)) }
@@ -335,9 +335,9 @@ const ORDERS: &str = r#"
 
 /// Two faults at once, of checks that follow each other: the first one is the answer.
 const TWO_FAULTS: &str = r#"
-"version":1 -> "version":2 ; {"offset":0}} -> {"offset":0} => NotJson
+"version":1 -> "version":3 ; {"offset":0}} -> {"offset":0} => NotJson
 "version":1 -> "version":null ; {"offset":0} -> {"offset":841} => BadField { list: 0, index: 0, fault: Shape }
-"version":1 -> "version":2 ; "campaigns":[], ->  => Version(2)
+"version":1 -> "version":3 ; "campaigns":[], ->  => Version(3)
 "default":1 -> "default":0 ; {"offset":0} -> {"offset":841} => BadField { list: 0, index: 0, fault: Shape }
 {"offset":0} -> {"offset":841} ; "length":3 -> "length":0 => BadField { list: 0, index: 0, fault: Zone(OffsetRange(841)) }
 "length":3 -> "length":0 ; "seconds":10 -> "seconds":0 => BadField { list: 1, index: 0, fault: Shape }
@@ -362,6 +362,63 @@ const TWO_ROW_FAULTS: &str = r#"
 "every":2 -> "every":0 ; "order":3 -> "order":65536 => BadField { list: 5, index: 1, fault: Repeat(ZeroStep) }
 "order":3 -> "order":65536 ; "date":19723 -> "date":47482 => BadField { list: 5, index: 1, fault: Event(BigNumber) }
 "priority":65535 -> "priority":65536 ; {"id":2,"order":3,"priority":0, -> {"id":0,"order":3,"priority":0, => BadField { list: 5, index: 0, fault: Event(BigNumber) }
+"#;
+
+/// The dates of a daypart aren't of their form, or make none.
+const DATES: &str = r#"
+"dates":[{"date":20148,"end":39600,"start":36000},{"date":20149,"end":0,"start":0}], ->  => BadField { list: 4, index: 0, fault: Shape }
+"dates":[ -> "dates":null,"date":[ => BadField { list: 4, index: 0, fault: Shape }
+"dates":[{"date":20148,"end":39600,"start":36000},{"date":20149,"end":0,"start":0}] -> "dates":null => BadField { list: 4, index: 0, fault: Shape }
+"dates":[{ -> "dates":[1,{ => BadField { list: 4, index: 0, fault: Shape }
+{"date":20148, -> { => BadField { list: 4, index: 0, fault: Shape }
+{"date":20148, -> {"date":20148,"day":6, => BadField { list: 4, index: 0, fault: Shape }
+"date":20148 -> "day":6 => BadField { list: 4, index: 0, fault: Shape }
+"date":20148 -> "date":-1 => BadField { list: 4, index: 0, fault: Shape }
+"date":20148 -> "date":"20148" => BadField { list: 4, index: 0, fault: Shape }
+"date":20148 -> "date":20148.0 => BadField { list: 4, index: 0, fault: Shape }
+"date":20148 -> "date":4294967296 => BadField { list: 4, index: 0, fault: Shape }
+"end":39600 -> "end":null => BadField { list: 4, index: 0, fault: Shape }
+"date":20149 -> "date":47482 => BadField { list: 4, index: 0, fault: Daypart(BadDate(47482)) }
+"date":20149 -> "date":4294967295 => BadField { list: 4, index: 0, fault: Daypart(BadDate(4294967295)) }
+"date":20149 -> "date":20148 => BadField { list: 4, index: 0, fault: Daypart(DoubleDate(20148)) }
+"end":39600 -> "end":86400 => BadField { list: 4, index: 0, fault: Daypart(BadTime(86400)) }
+"end":39600 -> "end":86400 ; "day":6 -> "day":8 => BadField { list: 4, index: 0, fault: Daypart(BadTime(86400)) }
+"end":75600 -> "end":86401 ; "end":39600 -> "end":86400 => BadField { list: 4, index: 0, fault: Daypart(BadTime(86401)) }
+"date":20148 -> "date":47482 ; "day":6 -> "day":8 => BadField { list: 4, index: 0, fault: Daypart(BadWeekday(8)) }
+"date":20148 -> "date":47482 ; "date":20149 -> "date":47482 => BadField { list: 4, index: 0, fault: Daypart(BadDate(47482)) }
+{"date":20148,"end":39600,"start":36000},{"date":20149,"end":0,"start":0} -> {"date":20149,"end":0,"start":0},{"date":20148,"end":39600,"start":36000} => NotCanonical(50)
+"dates":[{ -> "dates": [{ => NotCanonical(37)
+"#;
+
+/// The layer of an event, or a repeat by the weekday of the month.
+const LAYERS: &str = r#"
+"id":1,"layer":0, -> "id":1, => BadField { list: 5, index: 0, fault: Shape }
+"id":1,"layer":0 -> "id":1,"layer":1 => BadField { list: 5, index: 0, fault: Later }
+"id":1,"layer":0 -> "id":0,"layer":1 => BadField { list: 5, index: 0, fault: Later }
+"id":1,"layer":0 -> "id":1,"colour":0,"layer":1 => BadField { list: 5, index: 0, fault: Later }
+"id":2,"layer":0 -> "id":2,"layer":1 => BadField { list: 5, index: 1, fault: Later }
+"id":1,"layer":0 -> "id":1,"layer":2 => BadField { list: 5, index: 0, fault: Event(BadLayer) }
+"id":1,"layer":0 -> "id":1,"layer":4294967295 => BadField { list: 5, index: 0, fault: Event(BadLayer) }
+"id":1,"layer":0 -> "id":1,"layer":2 ; "order":0 -> "order":65536 => BadField { list: 5, index: 0, fault: Event(BigNumber) }
+"id":1,"layer":0 -> "id":1,"layer":1.0 => BadField { list: 5, index: 0, fault: Shape }
+"id":1,"layer":0 -> "id":1,"layer":1e0 => BadField { list: 5, index: 0, fault: Shape }
+"id":1,"layer":0 -> "id":1,"layer":"1" => BadField { list: 5, index: 0, fault: Shape }
+"id":1,"layer":0 -> "id":1,"layer":-1 => BadField { list: 5, index: 0, fault: Shape }
+"id":1,"layer":0 -> "id":1,"layer":null => BadField { list: 5, index: 0, fault: Shape }
+"id":1,"layer":0 -> "id":1,"layer":4294967296 => BadField { list: 5, index: 0, fault: Shape }
+"unit":"month-weekday" -> "unit":"month_weekday" => BadField { list: 5, index: 1, fault: Shape }
+"days":[] -> "days":[1] => BadField { list: 5, index: 1, fault: Repeat(StrayDays) }
+"every":1 -> "every":0 => BadField { list: 5, index: 1, fault: Repeat(ZeroStep) }
+"id":1,"layer":0 -> "layer":0,"id":1 => NotCanonical(219)
+"#;
+
+/// What the other version has, or lacks.
+const OTHER_VERSIONS: &str = r#"
+"version":2 -> "version":3 => Version(3)
+"version":2 -> "version":1 => BadField { list: 4, index: 0, fault: Later }
+"version":2 -> "version":1 ; "id":9,"start" -> "start" => BadField { list: 4, index: 0, fault: Later }
+"version":2 -> "version":1 ; "dates":[{"date":20148,"end":39600,"start":36000},{"date":20149,"end":0,"start":0}], ->  => BadField { list: 5, index: 0, fault: Shape }
+"version":2 -> "version":1 ; "dates":[{"date":20148,"end":39600,"start":36000},{"date":20149,"end":0,"start":0}], ->  ; "id":1,"layer":0, -> "id":1, => BadField { list: 5, index: 1, fault: Later }
 "#;
 
 /// A text with one replacement, or several.
@@ -419,6 +476,16 @@ fn faults_of_schedules(rt: HostRuntime) -> Result<(), Fail> {
     expect_lines(&rt, alloc, BUSY, DAYPARTS, 25)?;
     expect_lines(&rt, alloc, BUSY, EVENT_FORMS, 50)?;
     expect_lines(&rt, alloc, BUSY, EVENTS, 19)
+}
+
+#[test]
+fn faults_of_version_2(rt: HostRuntime) -> Result<(), Fail> {
+    let alloc = rt.alloc();
+    expect_lines(&rt, alloc, DATED, DATES, 22)?;
+    expect_lines(&rt, alloc, DATED, LAYERS, 18)?;
+    expect_lines(&rt, alloc, DATED, OTHER_VERSIONS, 5)?;
+    let shape = r#""version":1 -> "version":2 => BadField { list: 4, index: 0, fault: Shape }"#;
+    expect_lines(&rt, alloc, BUSY, shape, 1)
 }
 
 #[test]

@@ -1,6 +1,6 @@
 //! Manifests that are read, and a few that are refused.
 
-use crate::texts::{BUSY, PLAIN, edited};
+use crate::texts::{BUSY, DATED, PLAIN, edited};
 use sg_base::{
     CampaignId, DaypartId, Kind, LayoutId, LimitName, Target, Unit, When, Window, ZoneRule,
 };
@@ -66,6 +66,35 @@ fn campaign_and_daypart(rt: HostRuntime) -> Result<(), Fail> {
         end: 75_600,
     };
     assert_eq!(rt; daypart.exceptions(), [(6, saturday)].as_slice());
+    Ok(())
+}
+
+#[test]
+fn what_version_2_says(rt: HostRuntime) -> Result<(), Fail> {
+    let snapshot = read(rt.alloc(), DATED.as_bytes())?;
+    assert_eq!(rt; snapshot.version(), 2);
+    let daypart = snapshot.dayparts().first().ok_or("no daypart")?;
+    let first = Window {
+        start: 36_000,
+        end: 39_600,
+    };
+    let second = Window { start: 0, end: 0 };
+    assert_eq!(rt;
+        daypart.dates(),
+        [(20_148, first), (20_149, second)].as_slice()
+    );
+    let event = snapshot.events().get(1).ok_or("no second event")?;
+    assert_eq!(rt; event.layer(), 0);
+    let repeat = event.repeat().as_ref().ok_or("no repeat")?;
+    assert_eq!(rt; repeat.unit(), Unit::MonthWeekday);
+    Ok(())
+}
+
+#[test]
+fn a_manifest_of_version_2_needs_nothing_new(rt: HostRuntime) -> Result<(), Fail> {
+    let text = edited(rt.alloc(), PLAIN, "\"version\":1", "\"version\":2")?;
+    assert_eq!(rt; read(rt.alloc(), text.as_bytes())?.version(), 2);
+    assert_eq!(rt; read(rt.alloc(), PLAIN.as_bytes())?.version(), 1);
     Ok(())
 }
 
@@ -175,7 +204,8 @@ fn most_layouts(rt: HostRuntime) -> Result<(), Fail> {
 
 #[test]
 fn text_again(rt: HostRuntime) -> Result<(), Fail> {
-    for text in [PLAIN, BUSY] {
+    let second = edited(rt.alloc(), PLAIN, "\"version\":1", "\"version\":2")?;
+    for text in [PLAIN, BUSY, DATED, second.as_str()] {
         let snapshot = read(rt.alloc(), text.as_bytes())?;
         assert_eq!(rt; write(rt.alloc(), &snapshot)?.as_slice(), text.as_bytes());
     }

@@ -7,6 +7,6 @@ use Rattle.sg_manifest.proofs.lists.read_entries.Given as goal
 
 abbrev pub invariant-loop-index : goal.invariant-loop-index
 invariant-loop-index g l = record {
-  left : with_front l.rows.items (entries_at l.rule.list l.rule.kind g.T.Entry.at g.T.Keyed.key l.index l.seen.items (items_view (drop l.index l.items))) ≡ entries_at l.rule.list l.rule.kind g.T.Entry.at g.T.Keyed.key 0 [] (items_view l.items);
-  valid : AllByRecursion g.T.Entry.valid l.rows.items;
+  left : with_front l.rows.items (entries_at l.rule.list l.rule.kind (g.T.ManifestRow.at l.form) g.T.ManifestRow.key l.index l.seen.items (items_view (drop l.index l.items))) ≡ entries_at l.rule.list l.rule.kind (g.T.ManifestRow.at l.form) g.T.ManifestRow.key 0 [] (items_view l.items);
+  valid : AllByRecursion (g.T.ManifestRow.valid l.form) l.rows.items;
 }

@@ -6,7 +6,7 @@ use Rattle.sg_manifest.proofs.order.by_id.Goals as goal
 
 pub returns : goal.returns
 returns g c =
-    let key = g.T.Keyed.key in
+    let key = g.T.ManifestRow.key in
     let sort = c.sort_unstable_by_key in
     let up = IsNonDecreasingBy-from_sort key sort.new.self.items (sort.ensures.sorted key (answers_always _ _ _ (λ f a r q h. search rules))) in
     c.from_vec.ensures ∙ sorted_is key c.args.rows sort.new.self.items c.requires (rw c.into_vec-rows.ensures at sort.ensures.permutation) up
