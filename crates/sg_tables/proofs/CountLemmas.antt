@@ -1,5 +1,5 @@
 -- Counts that are kept, and what the rows make of them after a change.
-use Rattle.std.proofs.Common.{◌≡◌, ℕ, suc, ◌+◌, ◌*◌, ◌^◌, ◌<◌, ◌≤◌, Bool, true, false, cond, eqb, ltb, ◌&&◌, ◌||◌, List, [], ◌∷◌, ◌++◌, length, get_or, take, refl, ap, sym, ◌∙◌, subst, arith}
+use Rattle.std.proofs.Common.{◌≡◌, ℕ, ◌+◌, ◌*◌, ◌^◌, ◌<◌, ◌≤◌, Bool, true, false, cond, eqb, ltb, ◌&&◌, ◌||◌, List, [], ◌∷◌, ◌++◌, length, get_or, take, refl, ap, sym, ◌∙◌, subst, arith}
 use Rattle.std.specs.Prelude.{Option, None, Some, count_by, filter}
 use Rattle.std.specs.List.{AllByRecursion, list_any}
 use Rattle.std.proofs.lemmas.Bool.{eq-eqb, ne_eqb, eqb-true, ltb-true, ltb-false, and_parts}
@@ -11,11 +11,11 @@ use Rattle.sg_base.specs.declared.limits.TheConstants.{MAX_MEDIA_BYTES}
 use Rattle.sg_base.specs.declared.row.Row.{Row}
 use Rattle.sg_base.specs.declared.row.Row.TheVariants as row
 use Rattle.sg_base.specs.Faults.{first_of, first_in}
-use Rattle.sg_base.specs.Rising.{IsRising, found, put, without}
+use Rattle.sg_base.specs.Rising.{found, put, without}
 use Rattle.sg_base.specs.Rows.{kind_of}
 use Rattle.sg_base.proofs.FaultLemmas.{first_none, if_none}
 use Rattle.sg_base.proofs.RisingLemmas.{by_equal, by_put, found-put, found-without, rank_found, rising-put, rising-without, all_without}
-use Rattle.sg_tables.specs.declared.change.TableChange.TheVariants.{Insert, Replace}
+use Rattle.sg_tables.specs.declared.change.TableChange.TheVariants.{Insert}
 use Rattle.sg_tables.specs.declared.change.TableRefusal.{TableRefusal}
 use Rattle.sg_tables.specs.declared.change.TableRefusal.TheVariants.{InUse}
 use Rattle.sg_tables.specs.declared.counts.Count.{Count}
@@ -149,7 +149,7 @@ light_left (row.Event v) total le e = omega arith
 
 -- ---- after a change
 
-kept_put : (P : Kept → Type 0) (e : Kept) (rows : List Kept) → P e → AllByRecursion P rows → AllByRecursion P (put number_of_kept e rows)
+pub kept_put : (P : Kept → Type 0) (e : Kept) (rows : List Kept) → P e → AllByRecursion P rows → AllByRecursion P (put number_of_kept e rows)
 kept_put P e [] p a = (p, tt)
 kept_put P e (x ∷ xs) p a = by_put number_of_kept e x xs (AllByRecursion P) (λ _. (p, a)) (λ _. (p, a.1)) (λ _. (a.0, kept_put P e xs p a.1))
 
@@ -235,7 +235,7 @@ declared_of n e rows counts total a there =
     let it_is : part (λ (x : Kept). bytes_of x.row) (found number_of_kept n rows) ≡ bytes_of e.row = ap (part (λ (x : Kept). bytes_of x.row)) there in
     omega (arith, old, without_is, it_is)
 
-media_code : (r : Row) → is_media r ≡ eqb (code_of (kind_of r)) 1
+pub media_code : (r : Row) → is_media r ≡ eqb (code_of (kind_of r)) 1
 media_code (row.Media f) = refl
 media_code (row.Layout l) = refl
 media_code (row.Campaign c) = refl

@@ -1,18 +1,19 @@
 -- The rows of a kind stand together.
-use Rattle.std.proofs.Common.{◌≡◌, ℕ, ◌+◌, ◌*◌, ◌^◌, ◌<◌, ◌≤◌, Bool, true, false, cond, eqb, List, [], ◌∷◌, refl, ap, sym, ◌∙◌, arith, inl, inr}
-use Rattle.std.specs.Prelude.{Option, None, Some, filter}
-use Rattle.std.specs.List.{AllByRecursion}
-use Rattle.std.proofs.lemmas.Bool.{cases_order, eq-eqb, ne_eqb, eqb-true}
+use Rattle.std.proofs.Common.{◌≡◌, ℕ, ◌+◌, ◌^◌, ◌<◌, ◌≤◌, Bool, true, false, cond, eqb, ltb, ◌&&◌, List, [], ◌∷◌, refl, ap, sym, ◌∙◌, arith, inl, inr}
+use Rattle.std.specs.Prelude.{Some, filter, slice_get}
+use Rattle.std.specs.List.{AllByRecursion, find}
+use Rattle.std.proofs.lemmas.Bool.{and_parts, cases_order, eq-eqb, eqb-true, eqb-false, lt-ltb, ltb-true}
 use Rattle.sg_base.specs.declared.kind.Kind.{Kind}
 use Rattle.sg_base.specs.declared.kind.Kind.TheVariants as kind
 use Rattle.sg_base.specs.Keys.{number}
 use Rattle.sg_base.specs.Rising.{IsRising, found}
 use Rattle.sg_base.specs.Rows.{kind_of}
-use Rattle.sg_base.proofs.RisingLemmas.{by_equal, found_first, found_later, found_outside, same_rising}
+use Rattle.sg_base.proofs.RisingLemmas.{found_later, found_outside, same_rising}
 use Rattle.sg_tables.specs.Counts.{IsBounded}
 use Rattle.sg_tables.specs.Entries.{Kept, number_of_kept}
 use Rattle.sg_tables.specs.Refusals.{is_of}
 use Rattle.sg_tables.specs.Rows.{code_of, id_in}
+use Rattle.sg_tables.specs.Tables.{is_above}
 
 -- a kind by its number
 kind_with : ℕ → Kind
@@ -40,53 +41,99 @@ kind_begins c d id lt e = (omega arith, omega arith)
 pub kind_is : (c d id : ℕ) → id < 2 ^ 32 → number d 0 0 ≤ number c id 0 → number c id 0 < number (d + 1) 0 0 → c ≡ d
 kind_is c d id lt low high = omega arith
 
--- a number between those that begin a kind and the next
-abbrev pub IsWithin : Kind → ℕ → Type 0
-IsWithin k n = (number (code_of k) 0 0 ≤ n) × (n < number (code_of k + 1) 0 0)
+-- a test of a row that its number decides, by whether it is between two
+pub record Decides (p : Kept → Bool) (start end : ℕ) (e : Kept) : Type 0 where
+  pub yes : p e ≡ true → (start ≤ number_of_kept e) × (number_of_kept e < end)
+  pub no : p e ≡ false → start ≤ number_of_kept e → number_of_kept e < end → ⊥
 
-rising_of : (k : Kind) (P : Kept → Type 0) (rows : List Kept) → AllByRecursion P rows → AllByRecursion P (filter (is_of k) rows)
-rising_of k P [] a = tt
-rising_of k P (e ∷ es) a = elim (is_of k e) as (λ b. AllByRecursion P (cond b (e ∷ filter (is_of k) es) (filter (is_of k) es))) [
-  | true ↦ (a.0, rising_of k P es a.1)
-  | false ↦ rising_of k P es a.1
+all_filter : (p : Kept → Bool) (P : Kept → Type 0) (rows : List Kept) → AllByRecursion P rows → AllByRecursion P (filter p rows)
+all_filter p P [] a = tt
+all_filter p P (e ∷ es) a = elim (p e) as (λ b. AllByRecursion P (cond b (e ∷ filter p es) (filter p es))) [
+  | true ↦ (a.0, all_filter p P es a.1)
+  | false ↦ all_filter p P es a.1
 ]
 
-rising-filter : (k : Kind) (rows : List Kept) → IsRising number_of_kept rows → IsRising number_of_kept (filter (is_of k) rows)
-rising-filter k [] s = tt
-rising-filter k (e ∷ es) s = elim (is_of k e) as (λ b. IsRising number_of_kept (cond b (e ∷ filter (is_of k) es) (filter (is_of k) es))) [
-  | true ↦ (rising_of k (λ x. number_of_kept e < number_of_kept x) es s.0, rising-filter k es s.1)
-  | false ↦ rising-filter k es s.1
+rising-filter : (p : Kept → Bool) (rows : List Kept) → IsRising number_of_kept rows → IsRising number_of_kept (filter p rows)
+rising-filter p [] s = tt
+rising-filter p (e ∷ es) s = elim (p e) as (λ b. IsRising number_of_kept (cond b (e ∷ filter p es) (filter p es))) [
+  | true ↦ (all_filter p (λ x. number_of_kept e < number_of_kept x) es s.0, rising-filter p es s.1)
+  | false ↦ rising-filter p es s.1
 ]
 
-all_within : (k : Kind) (rows : List Kept) → AllByRecursion IsBounded rows → AllByRecursion (λ e. IsWithin k (number_of_kept e)) (filter (is_of k) rows)
-all_within k [] a = tt
-all_within k (e ∷ es) a = by_equal (code_of (kind_of e.row)) (code_of k) (λ b. AllByRecursion (λ x. IsWithin k (number_of_kept x)) (cond b (e ∷ filter (is_of k) es) (filter (is_of k) es)))
-    (λ same. (kind_begins (code_of (kind_of e.row)) (code_of k) (id_in e.row) a.0.id same, all_within k es a.1))
-    (λ _. all_within k es a.1)
+all_within : (p : Kept → Bool) (start end : ℕ) (rows : List Kept) → AllByRecursion (Decides p start end) rows → AllByRecursion (λ e. (start ≤ number_of_kept e) × (number_of_kept e < end)) (filter p rows)
+all_within p start end [] a = tt
+all_within p start end (e ∷ es) a = elim (p e) as (λ b. p e ≡ b → AllByRecursion (λ x. (start ≤ number_of_kept x) × (number_of_kept x < end)) (cond b (e ∷ filter p es) (filter p es))) [
+  | true ↦ λ yes. (a.0.yes yes, all_within p start end es a.1)
+  | false ↦ λ _. all_within p start end es a.1
+] refl
 
--- of the numbers of a kind the same is found among its rows
-found_of : (k : Kind) (n : ℕ) (rows : List Kept) → AllByRecursion IsBounded rows → IsWithin k n → found number_of_kept n (filter (is_of k) rows) ≡ found number_of_kept n rows
-found_of k n [] a w = refl
-found_of k n (e ∷ es) a w = by_equal (code_of (kind_of e.row)) (code_of k) (λ b. found number_of_kept n (cond b (e ∷ filter (is_of k) es) (filter (is_of k) es)) ≡ found number_of_kept n (e ∷ es))
-    (λ _. ap (λ r. cond (eqb (number_of_kept e) n) (Some e) r) (found_of k n es a.1 w))
-    (λ other. found_of k n es a.1 w ∙ sym (found_later number_of_kept n e es (λ at.
-    let low : number (code_of k) 0 0 ≤ number (code_of (kind_of e.row)) (id_in e.row) 0 = omega arith in
-    let high : number (code_of (kind_of e.row)) (id_in e.row) 0 < number (code_of k + 1) 0 0 = omega arith in
-    other (kind_is (code_of (kind_of e.row)) (code_of k) (id_in e.row) a.0.id low high))))
+-- between both numbers the same is found among the rows that pass
+found-filter : (p : Kept → Bool) (start end n : ℕ) (rows : List Kept) → AllByRecursion (Decides p start end) rows → start ≤ n → n < end → found number_of_kept n (filter p rows) ≡ found number_of_kept n rows
+found-filter p start end n [] a low high = refl
+found-filter p start end n (e ∷ es) a low high = elim (p e) as (λ b. p e ≡ b → found number_of_kept n (cond b (e ∷ filter p es) (filter p es)) ≡ found number_of_kept n (e ∷ es)) [
+  | true ↦ λ _. ap (λ r. cond (eqb (number_of_kept e) n) (Some e) r) (found-filter p start end n es a.1 low high)
+  | false ↦ λ no. found-filter p start end n es a.1 low high ∙ sym (found_later number_of_kept n e es (λ at. a.0.no no (omega arith) (omega arith)))
+] refl
 
--- what lies between the number that begins a kind and the next is its rows
-pub rows_of_kind : (k : Kind) (some rows : List Kept) → IsRising number_of_kept some → AllByRecursion (λ e. IsWithin k (number_of_kept e)) some → ((n : ℕ) → number (code_of k) 0 0 ≤ n → n < number (code_of k + 1) 0 0 → found number_of_kept n some ≡ found number_of_kept n rows) → IsRising number_of_kept rows → AllByRecursion IsBounded rows → some ≡ filter (is_of k) rows
-rows_of_kind k some rows rising within all up bounded =
-    let inside : (n : ℕ) → IsWithin k n → found number_of_kept n some ≡ found number_of_kept n (filter (is_of k) rows) = (λ n w. all n w.0 w.1 ∙ sym (found_of k n rows bounded w)) in
-    let outside : (n : ℕ) → (IsWithin k n → ⊥) → found number_of_kept n some ≡ found number_of_kept n (filter (is_of k) rows) = (λ n out.
-    found_outside number_of_kept (IsWithin k) n some within out ∙ sym (found_outside number_of_kept (IsWithin k) n (filter (is_of k) rows) (all_within k rows bounded) out)) in
-    same_rising number_of_kept some (filter (is_of k) rows) rising (rising-filter k rows up) (λ n.
-    elim (cases_order n (number (code_of k) 0 0)) [
-      | inl e ↦ inside n (omega arith, omega arith)
+-- what lies between two numbers is what passes a test that they decide
+pub between_filter : (p : Kept → Bool) (start end : ℕ) (some rows : List Kept) → IsRising number_of_kept some → AllByRecursion (λ e. (start ≤ number_of_kept e) × (number_of_kept e < end)) some
+    → ((n : ℕ) → start ≤ n → n < end → found number_of_kept n some ≡ found number_of_kept n rows) → IsRising number_of_kept rows → AllByRecursion (Decides p start end) rows → some ≡ filter p rows
+between_filter p start end some rows rising within all up decides =
+    let IsIn : ℕ → Type 0 = λ n. (start ≤ n) × (n < end) in
+    let inside : (n : ℕ) → start ≤ n → n < end → found number_of_kept n some ≡ found number_of_kept n (filter p rows) = (λ n low high. all n low high ∙ sym (found-filter p start end n rows decides low high)) in
+    let outside : (n : ℕ) → (IsIn n → ⊥) → found number_of_kept n some ≡ found number_of_kept n (filter p rows) = (λ n out.
+    found_outside number_of_kept IsIn n some within out ∙ sym (found_outside number_of_kept IsIn n (filter p rows) (all_within p start end rows decides) out)) in
+    same_rising number_of_kept some (filter p rows) rising (rising-filter p rows up) (λ n.
+    elim (cases_order n start) [
+      | inl e ↦ elim (cases_order n end) [
+        | inl q ↦ outside n (λ w. let h = w.1 in omega arith)
+        | inr (inl below) ↦ inside n (omega arith) below
+        | inr (inr high) ↦ outside n (λ w. let h = w.1 in omega arith)
+      ]
       | inr (inl below) ↦ outside n (λ w. let h = w.0 in omega arith)
-      | inr (inr above) ↦ elim (cases_order n (number (code_of k + 1) 0 0)) [
+      | inr (inr above) ↦ elim (cases_order n end) [
         | inl e ↦ outside n (λ w. let h = w.1 in omega arith)
-        | inr (inl below) ↦ inside n (omega arith, below)
+        | inr (inl below) ↦ inside n (omega arith) below
         | inr (inr high) ↦ outside n (λ w. let h = w.1 in omega arith)
       ]
     ])
+
+-- the kind of a row is decided by where its number stands
+pub decides_kind : (k : Kind) (rows : List Kept) → AllByRecursion IsBounded rows → AllByRecursion (Decides (is_of k) (number (code_of k) 0 0) (number (code_of k + 1) 0 0)) rows
+decides_kind k [] a = tt
+decides_kind k (e ∷ es) a = (
+  record {
+    yes = λ is. kind_begins (code_of (kind_of e.row)) (code_of k) (id_in e.row) a.0.id (eqb-true _ _ is);
+    no = λ other low high. eqb-false (code_of (kind_of e.row)) (code_of k) other (kind_is (code_of (kind_of e.row)) (code_of k) (id_in e.row) a.0.id low high);
+  },
+  decides_kind k es a.1,
+)
+
+-- and so is whether its id is above another of the kind
+pub decides_above : (k : Kind) (id : ℕ) (rows : List Kept) → id < 2 ^ 32 → AllByRecursion IsBounded rows → AllByRecursion (Decides (is_above k id) (number (code_of k) id 0 + 1) (number (code_of k + 1) 0 0)) rows
+decides_above k id [] lt a = tt
+decides_above k id (e ∷ es) lt a =
+    let c = code_of (kind_of e.row) in
+    let bound = a.0.id in (
+      record {
+        yes = λ is.
+            let parts = and_parts (eqb c (code_of k)) (ltb id (id_in e.row)) is in
+            let same : c ≡ code_of k = eqb-true c (code_of k) parts.0 in
+            let more : id < id_in e.row = ltb-true id (id_in e.row) parts.1 in
+            (omega (arith, bound, same, more), omega (arith, bound, same, more));
+        no = λ other low high.
+            let same : c ≡ code_of k = kind_is c (code_of k) (id_in e.row) bound (omega arith) high in
+            let more : id < id_in e.row = omega (arith, bound, same) in
+            let both : (eqb c (code_of k) && ltb id (id_in e.row)) ≡ true = rw (eq-eqb c (code_of k) same, lt-ltb id (id_in e.row) more) in
+            let e = both in absurd (cc);
+      },
+      decides_above k id es lt a.1,
+    )
+
+-- the first of those that pass
+pub first_passes : (p : Kept → Bool) (rows : List Kept) → slice_get (filter p rows) 0 ≡ find p rows
+first_passes p [] = refl
+first_passes p (e ∷ es) = elim (p e) as (λ b. slice_get (cond b (e ∷ filter p es) (filter p es)) 0 ≡ cond b (Some e) (find p es)) [
+  | true ↦ refl
+  | false ↦ first_passes p es
+]

@@ -1,3 +1,4 @@
 pub mod SumLemmas
 pub mod KindLemmas
 pub mod CountLemmas
+pub mod MediumLemmas

@@ -1,6 +1,5 @@
 -- The rows of the server as lists by key, and what a change makes of them.
 use Rattle.std.specs.Prelude.{◌≡◌, ℕ, Bool, true, false, not, List, Option, None, Some}
-use Rattle.sg_base.specs.declared.kind.Kind.{Kind}
 use Rattle.sg_base.specs.declared.row.Row.{Row}
 use Rattle.sg_base.specs.declared.row.Row.TheVariants as row
 use Rattle.sg_base.specs.Rising.{put, without}

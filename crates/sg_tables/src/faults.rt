@@ -1,24 +1,25 @@
 //! What refuses a change, looked up and not looked through.
 
-ghost use Rattle.std.specs.Prelude.{◌≡◌, ◌<◌, ◌≤◌, ◌^◌, count_by, filter};
+ghost use Rattle.std.specs.Prelude.{◌≡◌, ◌<◌, ◌≤◌, ◌^◌};
 ghost use Rattle.std.specs.List.{AllByRecursion, list_any};
 ghost use Rattle.sg_base.specs.Faults.{first_in};
 ghost use Rattle.sg_base.specs.declared.limits.TheConstants.{MAX_MEDIA_BYTES};
 ghost use Rattle.sg_base.specs.Rising.{IsRising};
 ghost use Rattle.sg_tables.specs.Counts.{IsBounded, counted, times_in};
 ghost use Rattle.sg_tables.specs.Entries.{number_of_kept};
-ghost use Rattle.sg_tables.specs.Refusals.{row_at, exists_fault, unknown_fault, reference_fault, references_fault, is_of, most_of, count_fault, bytes_of, bytes_fault, use_fault, user_fault};
+ghost use Rattle.sg_tables.specs.Refusals.{row_at, exists_fault, unknown_fault, reference_fault, references_fault, most_of, count_fault, bytes_of, bytes_fault, use_fault, user_fault};
 ghost use Rattle.sg_tables.specs.Rows.{is_same, number_at};
 
 use crate::change::TableRefusal;
 use crate::counts::{Count, count_of};
 use crate::entry::Entry;
+use crate::kinds::{count, of_kind};
 use crate::row_id::{RowId, code};
 use sg_base::limits::{
     MAX_CAMPAIGNS, MAX_CLIENTS, MAX_DAYPARTS, MAX_DISPLAYS, MAX_EVENTS, MAX_GROUPS, MAX_LAYOUTS,
     MAX_MEDIA, MAX_MEDIA_BYTES,
 };
-use sg_base::{Key, Kind, MediaId, Row, Sorted};
+use sg_base::{Kind, MediaId, Row, Sorted};
 
 /// There is such a row already.
 pub fn exists(entries: &Sorted<Entry>, id: RowId) -> Option<TableRefusal>
@@ -184,26 +185,6 @@ fn names(references: &[RowId], id: RowId) -> bool
     ensures { result ≡ list_any (is_same id) references.now }
 {
     references.iter().any(|named| id.is_same(*named))
-}
-
-// How many rows of a kind there are.
-fn count(entries: &Sorted<Entry>, kind: Kind) -> usize
-    requires rising { IsRising number_of_kept entries.now.items }
-    requires bounded { AllByRecursion IsBounded entries.now.items }
-    ensures { result ≡ count_by (is_of kind) entries.now.items }
-{
-    of_kind(entries, kind).len()
-}
-
-// The rows of a kind, by two searches.
-fn of_kind(entries: &Sorted<Entry>, kind: Kind) -> &[Entry]
-    requires rising { IsRising number_of_kept entries.now.items }
-    requires bounded { AllByRecursion IsBounded entries.now.items }
-    ensures { result.now ≡ filter (is_of kind) entries.now.items }
-{
-    let kind = code(kind);
-    let first = Key { kind, a: 0, b: 0 };
-    entries.between(first.rank(), Key::rank_after_kind(kind))
 }
 
 // The most rows of a kind.

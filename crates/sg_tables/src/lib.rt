@@ -10,6 +10,7 @@ mod change;
 mod counts;
 mod entry;
 mod faults;
+mod kinds;
 mod prepared;
 mod references;
 mod row_id;
@@ -20,3 +21,6 @@ pub use entry::Entry;
 pub use prepared::Prepared;
 pub use row_id::RowId;
 pub use tables::Tables;
+
+#[cfg(test)]
+mod tests;

@@ -1,7 +1,7 @@
 //! The tables.
 
-ghost use Rattle.std.specs.Prelude.{◌≡◌, ◌≢◌, ◌≤◌, ◌<◌, false, Some, None, [], length, IfOk, OnOk, IfErr, option_map};
-ghost use Rattle.std.specs.List.{AllByRecursion};
+ghost use Rattle.std.specs.Prelude.{◌≡◌, ◌≢◌, ◌≤◌, ◌<◌, false, Some, None, [], length, IfOk, OnOk, IfErr, option_map, filter};
+ghost use Rattle.std.specs.List.{AllByRecursion, find};
 ghost use Rattle.std.specs.Option.{option_copied};
 ghost use Rattle.sg_base.specs.Rising.{IsRising, put, without};
 ghost use Rattle.sg_base.specs.declared.kind.Kind.TheVariants as kind;
@@ -9,17 +9,18 @@ ghost use Rattle.sg_base.specs.declared.limits.TheConstants.{MAX_MEDIA_BYTES};
 ghost use Rattle.sg_tables.specs.declared.change.TableRefusal.TheVariants.{Memory};
 ghost use Rattle.sg_tables.specs.Counts.{AreCounted, IsBounded, counted, times_in};
 ghost use Rattle.sg_tables.specs.Entries.{IsAsked, after, is_complete, is_media, number_of_kept};
-ghost use Rattle.sg_tables.specs.Refusals.{declared, refusal, row_at};
-ghost use Rattle.sg_tables.specs.Rows.{at, number_at, references};
-ghost use Rattle.sg_tables.specs.Tables.{HasRoom, IsPrepared, change_of};
+ghost use Rattle.sg_tables.specs.Refusals.{declared, is_of, refusal, row_at};
+ghost use Rattle.sg_tables.specs.Rows.{at, id_in, number_at, references};
+ghost use Rattle.sg_tables.specs.Tables.{IsPrepared, change_of, file_in, file_of, holding, is_above, whole, with_medium};
 
 use crate::change::{TableChange, TableRefusal};
 use crate::counts::{Count, add_all, take_all};
 use crate::entry::Entry;
 use crate::faults::{declared_by, exists, full, heavy, named, unknown, used};
+use crate::kinds::{next_id, of_kind};
 use crate::prepared::Prepared;
 use crate::row_id::RowId;
-use sg_base::{Kind, MediaId, Row, Sorted};
+use sg_base::{Kind, Listed, MediaId, Row, Sorted};
 use std::alloc::Global;
 use std::marker::Model;
 
@@ -161,6 +162,20 @@ impl Tables {
         }
     }
 
+    /// The rows of a kind, by id.
+    pub fn rows_of(&self, kind: Kind) -> &[Entry]
+        ensures { result.now ≡ filter (is_of kind) self.now.rows }
+    {
+        of_kind(&self.entries, kind)
+    }
+
+    /// The least id of a kind above another.
+    pub fn after(&self, kind: Kind, id: u32) -> Option<u32>
+        ensures { result ≡ option_map (λ e. id_in e.row) (find (is_above kind id) self.now.rows) }
+    {
+        next_id(&self.entries, kind, id)
+    }
+
     /// Whether there is such a medium and it is complete.
     pub fn is_complete(&self, media: MediaId) -> bool
         ensures { result ≡ is_complete (row_at (at kind.Media media.0) self.now.rows) }
@@ -173,6 +188,53 @@ impl Tables {
             Some(entry) => entry.is_complete(),
             None => false,
         }
+    }
+
+    /// Says how many bytes of a medium have come, which isn't complete then. It takes no memory.
+    pub fn receive(&mut self, media: MediaId, received: u32)
+        requires { row_at (at kind.Media media.0) self.old.rows ≢ None }
+        ensures { self.new.rows ≡ with_medium (holding received) media self.old.rows }
+    {
+        if let Some(file) = medium_of(&self.entries, media) {
+            self.entries
+                .replace(Entry::medium(self.alloc, file, received, false));
+        }
+    }
+
+    /// Says that a medium is complete. It takes no memory.
+    pub fn complete(&mut self, media: MediaId)
+        requires { row_at (at kind.Media media.0) self.old.rows ≢ None }
+        ensures { self.new.rows ≡ with_medium whole media self.old.rows }
+    {
+        if let Some(file) = medium_of(&self.entries, media) {
+            self.entries
+                .replace(Entry::medium(self.alloc, file, file.length, true));
+        }
+    }
+}
+
+// The file of a medium; `None` only if there is no such medium.
+fn medium_of(entries: &Sorted<Entry>, media: MediaId) -> Option<Listed>
+    requires { AllByRecursion IsBounded entries.now.items }
+    ensures file { result ≡ file_in (row_at (at kind.Media media.0) entries.now.items) }
+    ensures missing { result ≡ None → row_at (at kind.Media media.0) entries.now.items ≡ None }
+{
+    let id = RowId {
+        kind: Kind::Media,
+        id: media.0,
+    };
+    match entries.find(id.key().rank()) {
+        Some(entry) => file_of(entry.row()),
+        None => None,
+    }
+}
+
+fn file_of(row: &Row) -> Option<Listed>
+    ensures { result ≡ file_of row.now }
+{
+    match row {
+        Row::Media(file) => Some(*file),
+        _ => None,
     }
 }
 

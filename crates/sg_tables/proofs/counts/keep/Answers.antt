@@ -1,4 +1,4 @@
-use Rattle.std.proofs.Common.{◌≡◌, ◌∙◌, ap}
+use Rattle.std.proofs.Common.{◌∙◌, ap}
 use Rattle.sg_tables.specs.Counts.{counted}
 use Rattle.sg_tables.specs.Rows.{number_at}
 use Rattle.sg_tables.proofs.CountLemmas.{counted_here, counted_there}

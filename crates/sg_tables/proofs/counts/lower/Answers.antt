@@ -1,4 +1,4 @@
-use Rattle.std.proofs.Common.{◌≡◌, ◌∙◌, ap, sym}
+use Rattle.std.proofs.Common.{◌∙◌, ap, sym}
 use Rattle.sg_base.specs.Rising.{without}
 use Rattle.sg_tables.specs.Counts.{count_number, counted}
 use Rattle.sg_tables.specs.Rows.{number_at}

@@ -1,7 +1,5 @@
 use Rattle.std.proofs.Common.{◌≡◌, None, ◌∙◌, ap, sym, subst}
-use Rattle.sg_base.specs.Rows.{kind_of}
 use Rattle.sg_tables.specs.Refusals.{bytes_fault, count_fault, exists_fault, references_fault, row_at}
-use Rattle.sg_tables.specs.Rows.{id_of, references}
 use Rattle.sg_tables.proofs.CountLemmas.{passed}
 use Rattle.sg_tables.proofs.tables.insert_fault.Goals as goal
 

@@ -1,4 +1,4 @@
-use Rattle.std.proofs.Common.{◌≡◌, ℕ, ◌+◌, ◌<◌, ◌≤◌, ◌^◌, length, ◌∙◌, ap, sym, subst, arith}
+use Rattle.std.proofs.Common.{◌≡◌, ℕ, ◌+◌, ◌≤◌, length, ◌∙◌, ap, sym, subst, arith}
 use Rattle.std.specs.Option.{option_copied}
 use Rattle.sg_base.specs.Rising.{found}
 use Rattle.sg_tables.specs.Counts.{AreCounted, counted, times}

@@ -1,4 +1,4 @@
-use Rattle.std.proofs.Common.{◌≡◌, ◌∙◌, ap, sym}
+use Rattle.std.proofs.Common.{◌∙◌, ap, sym}
 use Rattle.sg_tables.specs.declared.change.TableChange.TheVariants.{Insert}
 use Rattle.sg_tables.specs.Refusals.{refusal}
 use Rattle.sg_tables.proofs.tables.Tables.prepare_insert.Goals as goal
