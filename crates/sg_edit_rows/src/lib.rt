@@ -16,5 +16,3 @@ mod display;
 mod group;
 mod row;
 mod scheduled;
-#[cfg(test)]
-mod tests;

@@ -3,13 +3,13 @@
 ghost use Rattle.sg_rows.specs.declared.form.RowForm.TheVariants.{Version1, Version2, Edit};
 ghost use Rattle.sg_edit_rows.specs.EditRows.{HasKind};
 
-use crate::{read_row, write_older_row, write_row};
 use serde_json::Value;
 use sg_base::{
     CampaignId, DaypartFault, DisplayId, EventFault, GroupId, Kind, LayoutFault, LayoutId, MediaId,
     RepeatFault, Row, Target, Window, ZoneRule,
 };
 use sg_calendar::ZoneFault;
+use sg_edit_rows::{read_row, write_older_row, write_row};
 use sg_rows::{RowFault, RowForm};
 use std::alloc::Global;
 use std::process::Abort;
