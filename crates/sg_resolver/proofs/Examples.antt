@@ -32,6 +32,7 @@ two_regions = record {
 -- layouts of 10 s, 20 s, 30 s and a minute and that of two regions, a campaign of two of them, and a daypart from 8 to 10
 abbrev ruled : ℤ → ℕ → List EventValue → SnapshotRow
 ruled minutes first events = record {
+  version = 1;
   zone = Offset minutes;
   default = record { 0 = first };
   layouts = plain 1 10 ∷ plain 2 20 ∷ plain 3 30 ∷ plain 4 60 ∷ two_regions ∷ [];

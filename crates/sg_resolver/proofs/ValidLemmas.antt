@@ -24,7 +24,7 @@ use Rattle.sg_voice.specs.Hour.{play_of as interrupt_play}
 use Rattle.sg_voice.specs.Begin.{IsSlot, Full, Normal, Between}
 use Rattle.sg_voice.proofs.SoundLemmas.{all_append, all_interrupt_plays, at_cyclic}
 use Rattle.sg_rows.specs.Rows.{IsLayoutRow, IsCampaignRow, IsEventRow}
-use Rattle.sg_manifest.specs.Snapshot.{SnapshotRow, IsSnapshot, HasTarget, layout_ids}
+use Rattle.sg_manifest.specs.Snapshot.{SnapshotRow, IsSnapshot, HasTarget, layout_ids, form_of}
 use Rattle.sg_resolver.specs.Rows.{regions_of, shown_by}
 use Rattle.sg_resolver.specs.Lists.{is_active, greatest_priority, in_order, play_of, plays_of, plays_or_default, normal_events, normal_plays, target_layout, interrupt_of, interrupt_events, interrupts}
 use Rattle.sg_resolver.proofs.Found.{not_missing, found_passes}
@@ -43,10 +43,10 @@ pub record IsKnownInterrupt (s : SnapshotRow) (i : Interrupt) : Type 0 where
 
 -- an event whose row is valid and whose target is there
 pub record IsKnownEvent (s : SnapshotRow) (e : EventValue) : Type 0 where
-  pub row : IsEventRow e
+  pub row : IsEventRow (form_of s.version) e
   pub target : HasTarget s e.target
 
-all_known : (s : SnapshotRow) (es : List EventValue) → AllByRecursion IsEventRow es → AllByRecursion (λ e. HasTarget s e.target) es → AllByRecursion (IsKnownEvent s) es
+all_known : (s : SnapshotRow) (es : List EventValue) → AllByRecursion (IsEventRow (form_of s.version)) es → AllByRecursion (λ e. HasTarget s e.target) es → AllByRecursion (IsKnownEvent s) es
 all_known s [] rows targets = tt
 all_known s (e ∷ es) rows targets = (record { row = rows.0; target = targets.0 }, all_known s es rows.1 targets.1)
 
