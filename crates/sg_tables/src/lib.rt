@@ -21,6 +21,3 @@ pub use entry::Entry;
 pub use prepared::Prepared;
 pub use row_id::RowId;
 pub use tables::Tables;
-
-#[cfg(test)]
-mod tests;

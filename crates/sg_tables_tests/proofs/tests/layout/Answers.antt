@@ -1,7 +1,7 @@
 use Rattle.std.proofs.Common.{◌<◌, sym, subst, arith}
 use Rattle.std.specs.List.{AllByRecursion}
 use Rattle.sg_base.specs.declared.layout.Region.{Region}
-use Rattle.sg_tables.proofs.tests.layout.Goals as goal
+use Rattle.sg_tables_tests.proofs.tests.layout.Goals as goal
 
 pub new-requires : goal.new-requires
 new-requires c =

@@ -3,11 +3,11 @@
 
 ghost use Rattle.std.specs.Prelude.{◌≡◌, IfOk};
 
-use crate::{RowId, TableChange, TableRefusal, Tables};
 use sg_base::{
     Campaign, CampaignId, DisplayId, DisplayRow, Event, EventId, EventRow, GroupId, Item, Kind,
     Layout, LayoutId, Listed, MediaId, Region, Row, Rows, Target, When, ZoneRule,
 };
+use sg_tables::{RowId, TableChange, TableRefusal, Tables};
 use std::alloc::{AllocError, Global};
 use std::test::Fail;
 
