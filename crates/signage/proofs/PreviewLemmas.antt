@@ -10,7 +10,8 @@ use Rattle.signage.specs.declared.stop.Stop.TheVariants.{Usage, TooLong, NoManif
 use Rattle.signage.specs.Texts.{memory_fault}
 use Rattle.signage.specs.Stop.{status_of, text_of}
 use Rattle.signage.specs.Lines.{lines_of}
-use Rattle.signage.specs.Preview.{Input, IsManifest, TakesAll, Reads, IsPreview, body_of}
+use Rattle.sg_manifest.specs.Text.{IsManifest}
+use Rattle.signage.specs.Preview.{Input, TakesAll, Reads, IsPreview, body_of}
 use Rattle.signage.specs.Loading.{ReadsSome, Stops, Refused}
 use Rattle.signage.specs.Printing.{IsTimeline}
 

@@ -4,10 +4,10 @@ use Rattle.std.specs.declared.option.Option.{Option}
 use Rattle.std.specs.Io.KnownBytes.{Consumes, IsAtEnd}
 use Rattle.sg_base.specs.declared.limits.TheConstants.{MANIFEST_TEXT}
 use Rattle.sg_base.specs.Causes.{Rose}
-use Rattle.sg_manifest.specs.Snapshot.{SnapshotRow, IsSnapshot}
+use Rattle.sg_manifest.specs.Snapshot.{SnapshotRow}
 use Rattle.sg_manifest.specs.declared.fault.ManifestFault.{ManifestFault}
 use Rattle.sg_manifest.specs.Reading.{manifest_at}
-use Rattle.sg_manifest.specs.Text.{text}
+use Rattle.sg_manifest.specs.Text.{IsManifest}
 use Rattle.signage.specs.Texts.{too_long, no_manifest, read_fault, memory_fault}
 use Rattle.signage.specs.Lines.{lines_of}
 
@@ -23,12 +23,6 @@ side left faults source = record { left = left source; faults = faults source }
 -- one final line feed is dropped
 abbrev pub body_of : List ℕ → List ℕ
 body_of input = if slice_index input (length input - 1) == 10 then take (length input - 1) input else input
-
--- the bytes are the text of this valid snapshot, within the limit of a text
-pub record IsManifest (bytes : List ℕ) (s : SnapshotRow) : Type 0 where
-  pub valid : IsSnapshot s
-  pub short : length bytes ≤ MANIFEST_TEXT
-  pub is : bytes ≡ text s
 
 -- these bytes were taken, and nothing is left
 pub record TakesAll (before after : Input) (input : List ℕ) : Type 0 where

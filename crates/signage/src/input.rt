@@ -2,7 +2,8 @@
 
 ghost use Rattle.std.specs.Prelude.{◌≡◌, ◌<◌, ◌≤◌, vec_len, IfOk, MatchResult};
 ghost use Rattle.std.specs.Io.KnownBytes.{Consumes, IsAtEnd};
-ghost use Rattle.signage.specs.Preview.{Reads, side, body_of, IsManifest};
+ghost use Rattle.sg_manifest.specs.Text.{IsManifest};
+ghost use Rattle.signage.specs.Preview.{Reads, side, body_of};
 ghost use Rattle.signage.specs.Loading.{Stops, ReadsSome, Refused};
 
 use crate::stop::Stop;

@@ -91,6 +91,42 @@ fn previews_worked_lines(rt: HostRuntime) -> Result<(), Fail> {
     Ok(())
 }
 
+/// A manifest of version 2 with one event, which is always active, in a layer.
+fn layered(alloc: Global, layer: &str) -> Result<String, Fail> {
+    let second = PLAIN.replacen(alloc, "\"version\":1", "\"version\":2", 1)?;
+    let event = format!(in alloc;
+        "\"events\":[{{\"id\":5,\"layer\":{layer},\"order\":0,\"priority\":0,\"repeat\":null,\"share\":0,\"target\":{{\"layout\":1}},\"when\":{{\"always\":true}}}}]"
+    )?;
+    Ok(
+        second
+            .as_str()
+            .replacen(alloc, "\"events\":[]", event.as_str(), 1)?,
+    )
+}
+
+#[test]
+fn previews_version_2_without_overlays(rt: HostRuntime) -> Result<(), Fail> {
+    let alloc = rt.alloc();
+    let plain = PLAIN.replacen(alloc, "\"version\":1", "\"version\":2", 1)?;
+    let shown = "0 e5 l1 s0 o0 r1:m1\n3599 e5 l1 s3590 o9 r1:m1\n3600 e5 l1 s3600 o0 r1:m1\n";
+    for (text, status, output) in [
+        (plain, 0, LINES),
+        (layered(alloc, "0")?, 0, shown),
+        (layered(alloc, "1")?, 3, BAD_FIELD),
+    ] {
+        expect(
+            &rt,
+            alloc,
+            "preview 0 3599 3600",
+            source_of(alloc, text.as_str())?,
+            MemSink::new(alloc),
+            status,
+            output,
+        )?;
+    }
+    Ok(())
+}
+
 #[test]
 fn preview_without_words(rt: HostRuntime) -> Result<(), Fail> {
     let alloc = rt.alloc();
