@@ -18,5 +18,3 @@ mod order;
 mod picture;
 mod resolver;
 mod show;
-#[cfg(test)]
-mod tests;

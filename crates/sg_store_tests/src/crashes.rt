@@ -1,10 +1,10 @@
 //! A crash in a switch.
 
-use crate::bench::after;
-use crate::outcomes::{FIRST, NONE, ONE, Shown, TWO, shown_by};
-use crate::steps::{Step, listed};
+use crate::bench::{Bench, fresh, make};
+use crate::outcomes::{FIRST, NONE, ONE, TWO};
+use crate::steps::{ROOM, Shown, Step, Unmet, listed, shown_by};
 use sg_disk::{Fuse, MemDisk, Pick};
-use sg_store::Store;
+use sg_store::{OpenFault, Store};
 use std::alloc::Global;
 use std::test::Fail;
 
@@ -41,13 +41,21 @@ fn images_show(alloc: Global, disk: &MemDisk) -> Result<[Shown; 5], Fail> {
     Ok(shown)
 }
 
-// What the images show where a crash meets the call after so many of a switch, and whether the switch passed.
+impl Bench<MemDisk> {
+    // What the images show where a crash meets the call after so many of a switch, and whether the switch passed.
+    fn crash(&mut self, alloc: Global, calls: u64) -> Result<([Shown; 5], bool), Fail> {
+        let files = listed(alloc, &[TWO])?;
+        self.disk.set_fuse(Fuse::Crash(calls));
+        let passed = self.switch(b"next!", files.as_slice())?.is_none();
+        Ok((images_show(alloc, &self.disk)?, passed))
+    }
+}
+
+// The same in a new store after steps.
 fn shown_after(alloc: Global, steps: &[Step], calls: u64) -> Result<([Shown; 5], bool), Fail> {
-    let files = listed(alloc, &[TWO])?;
-    let mut bench = after(alloc, steps)?;
-    bench.disk.set_fuse(Fuse::Crash(calls));
-    let passed = bench.switch(b"next!", files.as_slice())?.is_none();
-    Ok((images_show(alloc, &bench.disk)?, passed))
+    let mut bench = Bench::open(alloc, fresh(alloc)?)?;
+    bench.make_steps(alloc, steps)?;
+    bench.crash(alloc, calls)
 }
 
 // What is shown where a crash meets the call after so many, and whether the switch passes. Before the gate is written the old
@@ -87,6 +95,26 @@ fn the_gate_of_a_later_switch_decides(rt: HostRuntime) -> Result<(), Fail> {
     for calls in 0..9 {
         let shown = shown_after(rt.alloc(), &SWITCHED, calls)?;
         assert_eq!(rt; shown, expected(old, after_switch(2), calls), "{calls}");
+    }
+    Ok(())
+}
+
+// What an opening finds where a crash met the making of a store over an older one, while the journal was cleared.
+fn found_after_format(alloc: Global, pick: Pick) -> Result<Option<OpenFault>, Fail> {
+    let mut disk = fresh(alloc)?;
+    disk.set_fuse(Fuse::Crash(100));
+    if make(&mut disk, ROOM).is_ok() {
+        return Err(Unmet)?;
+    }
+    let mut image = MemDisk::new(alloc, disk.image(pick)?)?;
+    Ok(Store::open(alloc, &mut image).err())
+}
+
+#[test]
+fn a_format_closes_the_old_header_first(rt: HostRuntime) -> Result<(), Fail> {
+    for pick in [Pick::Nothing, Pick::All] {
+        let found = found_after_format(rt.alloc(), pick)?;
+        assert_eq!(rt; found, Some(OpenFault::Unformatted));
     }
     Ok(())
 }

@@ -1,7 +1,6 @@
 //! The first fault of a store's bytes, of which some were changed.
 
-use crate::bench::bytes_after;
-use crate::outcomes::{ONE, TWO};
+use crate::outcomes::{ONE, TWO, bytes_after};
 use crate::steps::{Step, Unmet};
 use sg_disk::MemDisk;
 use sg_store::{OpenFault, Store};

@@ -1,46 +1,30 @@
 //! What a store shows after steps, and how many calls of the disk they make.
 
-use crate::bench::{Bench, after, fresh};
-use crate::steps::{File, Step, Unmet};
-use sg_base::{Listed, MediaId};
-use sg_store::{NoSpace, Store};
+use crate::bench::{Bench, disk_after, fresh};
+use crate::steps::{Ask, File, Shown, Step, Told, shown_by};
+use sg_disk::MemDisk;
+use sg_store::NoSpace;
 use std::alloc::Global;
 use std::test::Fail;
 
-/// What a store shows: the switch number, the length of the manifest, how many files the snapshot has, and the first of
-/// them; whether as many files are staged as may be.
-#[derive(Clone, Copy, Debug, PartialEq, Eq)]
-pub(crate) struct Shown {
-    pub(crate) number: u32,
-    pub(crate) text: u32,
-    pub(crate) files: usize,
-    pub(crate) media: Option<u32>,
-    pub(crate) full: bool,
-}
-
-// The first file of a snapshot.
-fn first_file(store: &Store) -> Option<u32> {
-    match store.files() {
-        0 => None,
-        _ => Some(store.file(0).media.0),
-    }
-}
-
-/// What a store shows.
-pub(crate) fn shown_by(store: &Store) -> Shown {
-    Shown {
-        number: store.number(),
-        text: store.manifest_len(),
-        files: store.files(),
-        media: first_file(store),
-        full: store.is_full(),
-    }
-}
-
-// What is shown after steps, and how many calls of the disk have begun then.
-fn outcome(alloc: Global, steps: &[Step]) -> Result<(Shown, u64), Fail> {
-    let bench = after(alloc, steps)?;
+/// What the store of a disk shows after steps, and how many calls of the disk have begun then.
+pub(crate) fn outcome(alloc: Global, disk: MemDisk, steps: &[Step]) -> Result<(Shown, u64), Fail> {
+    let mut bench = Bench::open(alloc, disk)?;
+    bench.make_steps(alloc, steps)?;
     Ok((shown_by(&bench.store), bench.disk.begun()))
+}
+
+/// What the store of a disk answers after steps.
+pub(crate) fn told(alloc: Global, disk: MemDisk, steps: &[Step], ask: &Ask) -> Result<Told, Fail> {
+    let mut bench = Bench::open(alloc, disk)?;
+    bench.make_steps(alloc, steps)?;
+    bench.tell(alloc, ask)
+}
+
+/// The bytes of a disk with a new store, after steps.
+pub(crate) fn bytes_after(alloc: Global, steps: &[Step]) -> Result<Vec<u8>, Fail> {
+    let disk = disk_after(alloc, fresh(alloc)?, steps)?;
+    Ok(disk.bytes().to_vec(alloc)?)
 }
 
 const FILE: File = File { media: 5, count: 7 };
@@ -49,8 +33,13 @@ pub(crate) const ONE: File = File { media: 1, count: 3 };
 
 pub(crate) const TWO: File = File { media: 2, count: 4 };
 
-/// A file is staged in three pieces.
+// A file of the same length.
+const OTHER: File = File { media: 6, count: 4 };
+
+// A file is staged in three pieces.
 const STAGED: [Step; 1] = [Step::Stage(FILE, 3)];
+
+const KEPT: [Step; 2] = [Step::Stage(FILE, 3), Step::Keep(&[FILE])];
 
 const SWITCHED: [Step; 2] = [Step::Stage(FILE, 3), Step::Switch(b"text", &[FILE])];
 
@@ -58,13 +47,6 @@ const SWITCHED_TWICE: [Step; 3] = [
     Step::Stage(FILE, 3),
     Step::Switch(b"text", &[FILE]),
     Step::Switch(b"next!", &[FILE]),
-];
-
-const OPENED_AGAIN: [Step; 4] = [
-    Step::Stage(FILE, 3),
-    Step::Switch(b"text", &[FILE]),
-    Step::Switch(b"next!", &[FILE]),
-    Step::Open,
 ];
 
 pub(crate) const NONE: Shown = Shown {
@@ -89,71 +71,32 @@ const SECOND: Shown = Shown {
     ..FIRST
 };
 
-#[test]
-fn a_format_makes_265_calls(rt: HostRuntime) -> Result<(), Fail> {
-    assert_eq!(rt; fresh(rt.alloc())?.begun(), 265);
-    Ok(())
-}
+// How many calls a `format` makes: 265. An opening: a sync, the length, the header, two slots. One call for each piece, none
+// to begin, to seal and to keep. Eight for a switch.
+const OUTCOMES: [(&[Step], Shown, u64); 5] = [
+    (&[], NONE, 270),
+    (&STAGED, NONE, 273),
+    (&KEPT, NONE, 273),
+    (&SWITCHED, FIRST, 281),
+    (&SWITCHED_TWICE, SECOND, 289),
+];
 
-// An opening: a sync, the length, the header, two slots. One call for each piece, none to begin and to seal. Eight for a
-// switch. An opening that finds two open slots reads two tables besides.
 #[test]
 fn each_step_makes_its_calls(rt: HostRuntime) -> Result<(), Fail> {
-    let table: [(&[Step], Shown, u64); 6] = [
-        (&[], NONE, 270),
-        (&STAGED, NONE, 273),
-        (&[Step::Stage(FILE, 3), Step::Keep(&[FILE])], NONE, 273),
-        (&SWITCHED, FIRST, 281),
-        (&SWITCHED_TWICE, SECOND, 289),
-        (&OPENED_AGAIN, SECOND, 296),
-    ];
-    for (steps, shown, calls) in table {
-        assert_eq!(rt; outcome(rt.alloc(), steps)?, (shown, calls), "{calls}");
+    let alloc = rt.alloc();
+    for (steps, shown, calls) in OUTCOMES {
+        assert_eq!(rt; outcome(alloc, fresh(alloc)?, steps)?, (shown, calls));
     }
     Ok(())
 }
 
-// The display, the epoch and the length of the data area after an opening.
-fn made_for(alloc: Global) -> Result<(u32, u32, u64), Fail> {
-    let bench = after(alloc, &[])?;
-    Ok((
-        bench.store.display(),
-        bench.store.epoch(),
-        bench.store.room(),
-    ))
-}
-
+// An opening that finds two open slots reads two tables besides.
 #[test]
-fn an_opening_finds_what_was_formatted(rt: HostRuntime) -> Result<(), Fail> {
-    assert_eq!(rt; made_for(rt.alloc())?, (7, 3, 131_072));
+fn an_opening_shows_the_last_switch(rt: HostRuntime) -> Result<(), Fail> {
+    let alloc = rt.alloc();
+    let disk = disk_after(alloc, fresh(alloc)?, &SWITCHED_TWICE)?;
+    assert_eq!(rt; outcome(alloc, disk, &[])?, (SECOND, 296));
     Ok(())
-}
-
-// The manifest of 4 bytes after steps, where it stands, and how many calls it takes to read it.
-fn text_after(alloc: Global, steps: &[Step]) -> Result<([u8; 4], u64, u64), Fail> {
-    let mut bench = after(alloc, steps)?;
-    let begun = bench.disk.begun();
-    let mut text = [0; 4];
-    let place = bench.read_text(&mut text)?;
-    Ok((text, place, bench.disk.begun().saturating_sub(begun)))
-}
-
-#[test]
-fn the_manifest_stands_in_the_two_slots_in_turn(rt: HostRuntime) -> Result<(), Fail> {
-    let first = text_after(rt.alloc(), &SWITCHED)?;
-    assert_eq!(rt; first, (*b"text", 24_576, 1));
-    let again = [Step::Switch(b"once", &[]), Step::Switch(b"more", &[])];
-    let second = text_after(rt.alloc(), &again)?;
-    assert_eq!(rt; second, (*b"more", 1_093_632, 1));
-    Ok(())
-}
-
-// Two bytes of a file after steps.
-fn read_after(alloc: Global, steps: &[Step], media: u32, offset: u32) -> Result<[u8; 2], Fail> {
-    let mut bench = after(alloc, steps)?;
-    let mut found = [0; 2];
-    bench.read(media, offset, &mut found)?;
-    Ok(found)
 }
 
 const A: File = File {
@@ -209,92 +152,70 @@ const FILLED: [Step; 7] = [
     Step::Switch(b"t", &[B, LONG, NEW]),
 ];
 
+const ONCE_MORE: [Step; 2] = [Step::Switch(b"once", &[]), Step::Switch(b"more", &[])];
+
+// The manifest stands in the two slots in turn. Files read back at any offset.
+const READS: [(&[Step], Ask, Told); 8] = [
+    (&[], Ask::Made, Told::Made(7, 3, 131_072)),
+    (&SWITCHED, Ask::Text, Told::Text(*b"text", 24_576)),
+    (&ONCE_MORE, Ask::Text, Told::Text(*b"more", 1_093_632)),
+    (&SWITCHED, Ask::Bytes(5, 2), Told::Bytes([5, 5])),
+    (&SWITCHED, Ask::Bytes(5, 5), Told::Bytes([5, 200])),
+    (&FILLED, Ask::Bytes(5, 19_998), Told::Bytes([5, 200])),
+    (&FILLED, Ask::Bytes(2, 0), Told::Bytes([2, 2])),
+    (&FILLED, Ask::Bytes(4, 69_998), Told::Bytes([4, 200])),
+];
+
+const NO_GAP: Told = Told::Room(Some(NoSpace {
+    need: 1_073,
+    largest: 1_072,
+}));
+
+const SHORT_GAPS: Told = Told::Room(Some(NoSpace {
+    need: 20_001,
+    largest: 20_000,
+}));
+
+// A file takes a gap that fits, and is held where its own bytes came.
+const STAGES: [(&[Step], Ask, Told); 10] = [
+    (&FOUR, Ask::Room(1_073), NO_GAP),
+    (&FOUR, Ask::Room(1_072), Told::Room(None)),
+    (&GAPS, Ask::Room(20_001), SHORT_GAPS),
+    (&GAPS, Ask::Room(20_000), Told::Room(None)),
+    (&FILLED, Ask::Room(20_001), SHORT_GAPS),
+    (&[Step::Stage(TWO, 1)], Ask::Held(TWO), Told::Held(true)),
+    (
+        &[Step::Mistake(TWO, OTHER)],
+        Ask::Held(TWO),
+        Told::Held(false),
+    ),
+    (
+        &[Step::Mistake(TWO, OTHER), Step::Stage(TWO, 4)],
+        Ask::Held(TWO),
+        Told::Held(true),
+    ),
+    (
+        &[Step::Stage(TWO, 1), Step::Keep(&[ONE])],
+        Ask::Held(TWO),
+        Told::Held(false),
+    ),
+    (&[Step::Begin(TWO)], Ask::Come, Told::Come(Some(2))),
+];
+
 #[test]
-fn files_read_back_at_any_offset(rt: HostRuntime) -> Result<(), Fail> {
-    let table: [(&[Step], u32, u32, [u8; 2]); 5] = [
-        (&SWITCHED, 5, 2, [5, 5]),
-        (&SWITCHED, 5, 5, [5, 200]),
-        (&FILLED, 5, 19_998, [5, 200]),
-        (&FILLED, 2, 0, [2, 2]),
-        (&FILLED, 4, 69_998, [4, 200]),
-    ];
-    for (steps, media, offset, bytes) in table {
-        assert_eq!(rt;
-            read_after(rt.alloc(), steps, media, offset)?,
-            bytes,
-            "{offset}"
-        );
+fn a_snapshot_reads_back(rt: HostRuntime) -> Result<(), Fail> {
+    let alloc = rt.alloc();
+    for (steps, ask, answer) in READS {
+        assert_eq!(rt; told(alloc, fresh(alloc)?, steps, &ask)?, answer);
     }
     Ok(())
 }
 
-// The answer to the staging of a file of so many bytes after steps.
-fn begins_after(alloc: Global, steps: &[Step], length: u32) -> Result<Option<NoSpace>, Fail> {
-    let mut bench = after(alloc, steps)?;
-    bench.begin(&Listed {
-        media: MediaId(9),
-        length,
-        md5: [0; 16],
-    })
-}
-
-fn no_space(need: u32, largest: u32) -> Option<NoSpace> {
-    Some(NoSpace { need, largest })
-}
-
 #[test]
-fn a_file_takes_a_gap_that_fits(rt: HostRuntime) -> Result<(), Fail> {
-    let table: [(&[Step], u32, Option<NoSpace>); 5] = [
-        (&FOUR, 1_073, no_space(1_073, 1_072)),
-        (&FOUR, 1_072, None),
-        (&GAPS, 20_001, no_space(20_001, 20_000)),
-        (&GAPS, 20_000, None),
-        (&FILLED, 20_001, no_space(20_001, 20_000)),
-    ];
-    for (steps, length, answer) in table {
-        assert_eq!(rt;
-            begins_after(rt.alloc(), steps, length)?,
-            answer,
-            "{length}"
-        );
+fn files_are_staged_where_there_is_room(rt: HostRuntime) -> Result<(), Fail> {
+    let alloc = rt.alloc();
+    for (steps, ask, answer) in STAGES {
+        assert_eq!(rt; told(alloc, fresh(alloc)?, steps, &ask)?, answer);
     }
-    Ok(())
-}
-
-// Whether a file is held after steps, and which one is half staged.
-fn holds_after(alloc: Global, steps: &[Step], file: &File) -> Result<bool, Fail> {
-    let bench = after(alloc, steps)?;
-    if bench.store.staged().is_some() {
-        return Err(Unmet)?;
-    }
-    Ok(bench.store.held(&file.listed(alloc)?))
-}
-
-#[test]
-fn a_file_is_held_where_its_own_bytes_came(rt: HostRuntime) -> Result<(), Fail> {
-    let other = File { media: 6, ..TWO };
-    let table: [(&[Step], bool); 4] = [
-        (&[Step::Stage(TWO, 1)], true),
-        (&[Step::Mistake(TWO, other)], false),
-        (&[Step::Mistake(TWO, other), Step::Stage(TWO, 4)], true),
-        (&[Step::Stage(TWO, 1), Step::Keep(&[ONE])], false),
-    ];
-    for (steps, held) in table {
-        assert_eq!(rt; holds_after(rt.alloc(), steps, &TWO)?, held);
-    }
-    Ok(())
-}
-
-// What is staged after the first bytes of a file came: how many.
-fn came_after(alloc: Global, file: &File) -> Result<Option<u32>, Fail> {
-    let mut bench = Bench::open(alloc, fresh(alloc)?)?;
-    bench.begin(&file.listed(alloc)?)?;
-    bench.bring(b"ab")?;
-    Ok(bench.store.staged().map(|(_, came)| came))
-}
-
-#[test]
-fn the_bytes_that_came_are_counted(rt: HostRuntime) -> Result<(), Fail> {
-    assert_eq!(rt; came_after(rt.alloc(), &TWO)?, Some(2));
     Ok(())
 }

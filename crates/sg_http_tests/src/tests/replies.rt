@@ -8,7 +8,7 @@ use std::alloc::{AllocError, Global};
 use std::test::Fail;
 
 // The reply to a display's wrong key.
-#[tactic(auto, unfolding(crate::specs::Texts::reason))]
+#[tactic(auto, unfolding(sg_http::specs::Texts::reason))]
 fn wrong_key(alloc: Global) -> Result<Vec<u8>, AllocError> {
     reply_bytes(
         alloc,
@@ -20,12 +20,12 @@ fn wrong_key(alloc: Global) -> Result<Vec<u8>, AllocError> {
     )
 }
 
-#[tactic(auto, unfolding(crate::specs::Texts::reason))]
+#[tactic(auto, unfolding(sg_http::specs::Texts::reason))]
 fn wrong_method(alloc: Global) -> Result<Vec<u8>, AllocError> {
     reply_bytes(alloc, 405, Form::Json, Some(Verb::Post), b"{}", true)
 }
 
-#[tactic(auto, unfolding(crate::specs::Texts::reason))]
+#[tactic(auto, unfolding(sg_http::specs::Texts::reason))]
 fn bytes_of(alloc: Global, form: Form, body: &[u8]) -> Result<Vec<u8>, AllocError> {
     reply_bytes(alloc, 200, form, None, body, false)
 }
