@@ -1,10 +1,10 @@
 //! A crash in a switch.
 
-use crate::bench::{Bench, fresh, make};
+use crate::bench::{Bench, fresh};
 use crate::outcomes::{FIRST, NONE, ONE, TWO};
 use crate::steps::{ROOM, Shown, Step, Unmet, listed, shown_by};
 use sg_disk::{Fuse, MemDisk, Pick};
-use sg_store::{OpenFault, Store};
+use sg_store::{Format, OpenFault, Store, format};
 use std::alloc::Global;
 use std::test::Fail;
 
@@ -103,7 +103,12 @@ fn the_gate_of_a_later_switch_decides(rt: HostRuntime) -> Result<(), Fail> {
 fn found_after_format(alloc: Global, pick: Pick) -> Result<Option<OpenFault>, Fail> {
     let mut disk = fresh(alloc)?;
     disk.set_fuse(Fuse::Crash(100));
-    if make(&mut disk, ROOM).is_ok() {
+    let new = Format {
+        display: 7,
+        epoch: 3,
+        room: ROOM,
+    };
+    if format(&mut disk, &new).is_ok() {
         return Err(Unmet)?;
     }
     let mut image = MemDisk::new(alloc, disk.image(pick)?)?;
