@@ -13,5 +13,3 @@ pub use law::activity_stays;
 mod activity;
 mod changes;
 mod law;
-#[cfg(test)]
-mod tests;

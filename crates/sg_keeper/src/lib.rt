@@ -11,6 +11,3 @@ mod map;
 
 pub use keeper::{Change, Keeper, KeeperFail};
 pub use map::MapKeeper;
-
-#[cfg(test)]
-mod tests;

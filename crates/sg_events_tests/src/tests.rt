@@ -9,11 +9,11 @@ mod changes;
 mod dayparts;
 mod runs;
 
-use crate::{active, next_change};
 use sg_base::{
     Daypart, DaypartId, Event, EventFault, EventId, LayoutId, LocalSec, Repeat, RepeatFault, Steps,
     Target, Unit, When, Window,
 };
+use sg_events::{active, next_change};
 use std::alloc::Global;
 use std::marker::Brand;
 use std::sync::ledger::{Blank, Ledger};

@@ -1,7 +1,7 @@
 //! A keeper in memory through its trait: changes, pages, and the calls that are to fail.
 
-use crate::{Change, Keeper, KeeperFail, MapKeeper};
 use sg_base::{Key, Rows};
+use sg_keeper::{Change, Keeper, KeeperFail, MapKeeper};
 use std::alloc::{AllocError, Global};
 use std::test::Fail;
 
