@@ -14,16 +14,17 @@ use Rattle.sg_base.specs.Faults.{first_of, first_in}
 use Rattle.sg_base.specs.Rising.{found, put, without}
 use Rattle.sg_base.specs.Rows.{kind_of}
 use Rattle.sg_base.proofs.FaultLemmas.{first_none, if_none}
-use Rattle.sg_base.proofs.RisingLemmas.{by_equal, by_put, found-put, found-without, rank_found, rising-put, rising-without, all_without}
-use Rattle.sg_tables.specs.declared.change.TableChange.TheVariants.{Insert}
+use Rattle.sg_base.proofs.RisingLemmas.{by_equal, found-put, found-without, rank_found, rising-put, rising-without, all_without}
+use Rattle.sg_tables.specs.declared.change.TableChange.TheVariants.{Insert, Replace}
 use Rattle.sg_tables.specs.declared.change.TableRefusal.{TableRefusal}
 use Rattle.sg_tables.specs.declared.change.TableRefusal.TheVariants.{InUse}
 use Rattle.sg_tables.specs.declared.counts.Count.{Count}
 use Rattle.sg_tables.specs.declared.row_id.RowId.{RowId}
 use Rattle.sg_tables.specs.Counts.{AreCounted, IsBounded, count_in, count_number, counted, times, times_in}
 use Rattle.sg_tables.specs.Entries.{Kept, is_media, number_of_kept}
-use Rattle.sg_tables.specs.Refusals.{bytes_fault, bytes_of, count_fault, declared, exists_fault, is_of, most_of, refusal, references_fault, row_at, use_fault, user_fault}
+use Rattle.sg_tables.specs.Refusals.{bytes_fault, bytes_of, count_fault, declared, exists_fault, is_of, most_of, refusal, references_fault, row_at, unknown_fault, use_fault, user_fault}
 use Rattle.sg_tables.specs.Rows.{code_of, id_in, id_of, is_same, number_at, references, uses}
+use Rattle.sg_tables.proofs.KeptLemmas.{closed_put, closed_without, kept_at, kept_put, named_there}
 use Rattle.sg_tables.proofs.KindLemmas.{kind_is, same_code}
 use Rattle.sg_tables.proofs.SumLemmas.{part, sum-put, sum-without}
 
@@ -149,21 +150,13 @@ light_left (row.Event v) total le e = omega arith
 
 -- ---- after a change
 
-pub kept_put : (P : Kept → Type 0) (e : Kept) (rows : List Kept) → P e → AllByRecursion P rows → AllByRecursion P (put number_of_kept e rows)
-kept_put P e [] p a = (p, tt)
-kept_put P e (x ∷ xs) p a = by_put number_of_kept e x xs (AllByRecursion P) (λ _. (p, a)) (λ _. (p, a.1)) (λ _. (a.0, kept_put P e xs p a.1))
-
-pub kept_at : (P : Kept → Type 0) (n : ℕ) (e : Kept) (rows : List Kept) → AllByRecursion P rows → found number_of_kept n rows ≡ Some e → P e
-kept_at P n e [] a f = absurd (cc)
-kept_at P n e (x ∷ xs) a f = by_equal (number_of_kept x) n (λ b. cond b (Some x) (found number_of_kept n xs) ≡ Some e → P e)
-    (λ _ h. let is : x ≡ e = cc in subst P is a.0)
-    (λ _ h. kept_at P n e xs a.1 h) f
-
 pub counted_insert : (e : Kept) (rows : List Kept) (counts new : List Count) (total sum : ℕ) → AreCounted rows counts total → IsBounded e → refusal rows (Insert e.row) ≡ None
     → ((n : ℕ) → counted n new ≡ counted n counts + times n (references e.row)) → sum ≡ total + bytes_of e.row → AreCounted (put number_of_kept e rows) new sum
 counted_insert e rows counts new total sum a bounded allowed added summed =
     let none = is_new rows e.row allowed in
-    let limits = (first_none (references_fault rows (references e.row)) _ (first_none (exists_fault (id_of e.row) (row_at (id_of e.row) rows)) _ allowed).1).1 in
+    let passed_new = (first_none (exists_fault (id_of e.row) (row_at (id_of e.row) rows)) _ allowed).1 in
+    let passed_named = first_none (references_fault rows (references e.row)) _ passed_new in
+    let limits = passed_named.1 in
     let counts_left = (first_none (count_fault (kind_of e.row) rows) (bytes_fault e.row (declared rows)) limits) in
     let less : count_by (is_of (kind_of e.row)) rows < most_of (kind_of e.row) = ltb-true _ _ (room_left _ _ counts_left.0) in
     let nothing : (f : Kept → ℕ) → part f (found number_of_kept (number_of_kept e) rows) ≡ 0 = (λ f. ap (part f) none) in
@@ -173,6 +166,7 @@ counted_insert e rows counts new total sum a bounded allowed added summed =
     let light = light_left e.row (declared rows) a.light counts_left.1 in
     record {
       rising = rising-put number_of_kept e rows a.rising;
+      closed = closed_put e rows (named_there rows (references e.row) passed_named.0) a.closed;
       each = λ n.
           let old = a.each n in
           let now = added n in
@@ -194,9 +188,9 @@ counted_insert e rows counts new total sum a bounded allowed added summed =
       bounded = kept_put IsBounded e rows bounded a.bounded;
     }
 
-pub counted_remove : (n : ℕ) (e : Kept) (rows : List Kept) (counts new : List Count) (total rest : ℕ) → AreCounted rows counts total → found number_of_kept n rows ≡ Some e
+pub counted_remove : (n : ℕ) (e : Kept) (rows : List Kept) (counts new : List Count) (total rest : ℕ) → AreCounted rows counts total → times_in n rows ≡ 0 → found number_of_kept n rows ≡ Some e
     → ((k : ℕ) → counted k new + times k (references e.row) ≡ counted k counts) → rest + bytes_of e.row ≡ total → AreCounted (without number_of_kept n rows) new rest
-counted_remove n e rows counts new total rest a there taken left =
+counted_remove n e rows counts new total rest a unused there taken left =
     let it : (f : Kept → ℕ) → part f (found number_of_kept n rows) ≡ f e = (λ f. ap (part f) there) in
     let bytes_now = sum-without number_of_kept (λ (x : Kept). bytes_of x.row) n rows a.rising in
     let bytes_it = it (λ (x : Kept). bytes_of x.row) in
@@ -204,6 +198,7 @@ counted_remove n e rows counts new total rest a there taken left =
     let light = a.light in
     record {
       rising = rising-without number_of_kept n rows a.rising;
+      closed = closed_without n rows unused a.closed;
       each = λ k.
           let old = a.each k in
           let now = taken k in
@@ -263,9 +258,9 @@ kind_at d e bd be same =
     let j = be.id in
     kind_is (code_of (kind_of d.row)) (code_of (kind_of e.row)) (id_in d.row) i (omega (arith, i, j, same)) (omega (arith, i, j, same))
 
-pub counted_replace : (old e : Kept) (rows : List Kept) (counts mid new : List Count) (total : ℕ) → AreCounted rows counts total → IsBounded e → is_media e.row ≡ false → found number_of_kept (number_of_kept e) rows ≡ Some old
+pub counted_replace : (old e : Kept) (rows : List Kept) (counts mid new : List Count) (total : ℕ) → AreCounted rows counts total → IsBounded e → is_media e.row ≡ false → refusal rows (Replace e.row) ≡ None → found number_of_kept (number_of_kept e) rows ≡ Some old
     → ((k : ℕ) → counted k mid + times k (references old.row) ≡ counted k counts) → ((k : ℕ) → counted k new ≡ counted k mid + times k (references e.row)) → AreCounted (put number_of_kept e rows) new total
-counted_replace old e rows counts mid new total a bounded plain there taken added =
+counted_replace old e rows counts mid new total a bounded plain allowed there taken added =
     let it : (f : Kept → ℕ) → part f (found number_of_kept (number_of_kept e) rows) ≡ f old = (λ f. ap (part f) there) in
     let old_bounded = kept_at IsBounded (number_of_kept e) old rows a.bounded there in
     let same = kind_at old e old_bounded bounded (rank_found number_of_kept (number_of_kept e) rows old there) in
@@ -276,8 +271,10 @@ counted_replace old e rows counts mid new total a bounded plain there taken adde
     let bytes_it = it (λ (x : Kept). bytes_of x.row) in
     let bytes_old = a.bytes in
     let light = a.light in
+    let passed_named = (first_none (unknown_fault (id_of e.row) (row_at (id_of e.row) rows)) (references_fault rows (references e.row)) allowed).1 in
     record {
       rising = rising-put number_of_kept e rows a.rising;
+      closed = closed_put e rows (named_there rows (references e.row) passed_named) a.closed;
       each = λ k.
           let was = a.each k in
           let less = taken k in

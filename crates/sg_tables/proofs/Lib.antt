@@ -1,4 +1,6 @@
+pub mod ShortLemmas
 pub mod SumLemmas
 pub mod KindLemmas
+pub mod KeptLemmas
 pub mod CountLemmas
 pub mod MediumLemmas

@@ -1,6 +1,6 @@
 -- A medium of which more has come.
 use Rattle.std.proofs.Common.{◌≡◌, ◌≢◌, ℕ, ◌^◌, ◌<◌, true, cond, eqb, List, [], ◌∷◌, length, map, refl, ap, sym, ◌∙◌, subst, arith, inl, inr}
-use Rattle.std.specs.Prelude.{Option, None, Some}
+use Rattle.std.specs.Prelude.{Option, None, Some, All}
 use Rattle.std.specs.List.{AllByRecursion}
 use Rattle.std.proofs.lemmas.Bool.{cases_order, eq-eqb, ne_eqb}
 use Rattle.sg_base.specs.declared.file.Listed.{Listed}
@@ -12,12 +12,13 @@ use Rattle.sg_base.specs.Rising.{IsRising, found, put}
 use Rattle.sg_base.specs.Rows.{kind_of}
 use Rattle.sg_base.proofs.RisingLemmas.{by_put, all_above, found_above, found_first, found_later, rank_found, rising-put}
 use Rattle.sg_tables.specs.declared.counts.Count.{Count}
-use Rattle.sg_tables.specs.Counts.{AreCounted, IsBounded, times}
+use Rattle.sg_tables.specs.Counts.{AreCounted, IsBounded, IsShort, times}
 use Rattle.sg_tables.specs.Entries.{Kept, is_media, number_of_kept}
-use Rattle.sg_tables.specs.Refusals.{bytes_of, is_of, row_at}
+use Rattle.sg_tables.specs.Refusals.{IsThere, bytes_of, is_of, row_at}
 use Rattle.sg_tables.specs.Rows.{at, code_of, id_in, id_of, number_at, references}
 use Rattle.sg_tables.specs.Tables.{file_in, file_of, with_medium}
-use Rattle.sg_tables.proofs.CountLemmas.{kept_at, kept_put, media_code}
+use Rattle.sg_tables.proofs.CountLemmas.{media_code}
+use Rattle.sg_tables.proofs.KeptLemmas.{closed_put, kept_at, kept_put}
 use Rattle.sg_tables.proofs.KindLemmas.{kind_is}
 use Rattle.sg_tables.proofs.SumLemmas.{part, sum-put}
 
@@ -60,6 +61,9 @@ counted_same e old rows counts total a there is =
     let light = a.light in
     record {
       rising = rising-put number_of_kept e rows a.rising;
+      closed =
+          let named = kept_at (λ x. AllByRecursion (IsThere rows) (references x.row)) (number_of_kept e) old rows a.closed there in
+          closed_put e rows (subst (λ r. AllByRecursion (IsThere rows) (references r)) (sym is) named) a.closed;
       each = λ n.
           let now = sum-put number_of_kept (λ (x : Kept). times n (references x.row)) e rows a.rising in
           let old = same (λ r. times n (references r)) in
@@ -74,7 +78,7 @@ counted_same e old rows counts total a there is =
       light = omega (arith, bytes_now, bytes_old, light);
       bounded =
           let b = kept_at IsBounded (number_of_kept e) old rows a.bounded there in
-          kept_put IsBounded e rows (record { id = subst (λ r. id_in r < 2 ^ 32) (sym is) b.id; references = subst (λ r. length (references r) < 2 ^ 64) (sym is) b.references }) a.bounded;
+          kept_put IsBounded e rows (record { id = subst (λ r. id_in r < 2 ^ 32) (sym is) b.id; references = subst (λ r. length (references r) < 2 ^ 64) (sym is) b.references; named = subst (λ r. All IsShort (references r)) (sym is) b.named }) a.bounded;
     }
 
 file_is : (r : Row) (file : Listed) → file_of r ≡ Some file → r ≡ row.Media file

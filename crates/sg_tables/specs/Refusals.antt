@@ -1,6 +1,6 @@
 -- Why a change of the rows is refused: the first of several reasons, each over all rows.
-use Rattle.std.specs.Prelude.{ℕ, ◌+◌, ◌==◌, ◌&&◌, nat_lt, Bool, if◌then◌else◌, List, Option, None, Some, count_by}
-use Rattle.std.specs.List.{sum_by}
+use Rattle.std.specs.Prelude.{◌≢◌, ℕ, ◌+◌, ◌==◌, ◌&&◌, nat_lt, Bool, if◌then◌else◌, List, Option, None, Some, count_by}
+use Rattle.std.specs.List.{AllByRecursion, sum_by}
 use Rattle.sg_base.specs.declared.kind.Kind.{Kind}
 use Rattle.sg_base.specs.declared.kind.Kind.TheVariants as kind
 use Rattle.sg_base.specs.declared.limits.TheConstants.{MAX_MEDIA, MAX_MEDIA_BYTES, MAX_LAYOUTS, MAX_CAMPAIGNS, MAX_DAYPARTS, MAX_GROUPS, MAX_DISPLAYS, MAX_EVENTS, MAX_CLIENTS}
@@ -20,6 +20,14 @@ use Rattle.sg_tables.specs.Rows.{at, code_of, number_at, id_in, id_of, reference
 -- the row of an id
 abbrev pub row_at : RowId → List Kept → Option Kept
 row_at id rows = found number_of_kept (number_at id) rows
+
+-- there is such a row
+abbrev pub IsThere : List Kept → RowId → Type 0
+IsThere rows id = row_at id rows ≢ None
+
+-- each row that a row names is there
+abbrev pub AreClosed : List Kept → Type 0
+AreClosed rows = AllByRecursion (λ e. AllByRecursion (IsThere rows) (references e.row)) rows
 
 -- ---- of one row
 

@@ -9,7 +9,7 @@ ghost use Rattle.sg_base.specs.declared.limits.TheConstants.{MAX_MEDIA_BYTES};
 ghost use Rattle.sg_tables.specs.declared.change.TableRefusal.TheVariants.{Memory};
 ghost use Rattle.sg_tables.specs.Counts.{AreCounted, IsBounded, counted, times_in};
 ghost use Rattle.sg_tables.specs.Entries.{IsAsked, after, is_complete, is_media, number_of_kept};
-ghost use Rattle.sg_tables.specs.Refusals.{declared, is_of, refusal, row_at};
+ghost use Rattle.sg_tables.specs.Refusals.{AreClosed, declared, is_of, refusal, row_at};
 ghost use Rattle.sg_tables.specs.Rows.{at, id_in, number_at, references};
 ghost use Rattle.sg_tables.specs.Tables.{IsPrepared, change_of, file_in, file_of, holding, is_above, whole, with_medium};
 
@@ -162,9 +162,11 @@ impl Tables {
         }
     }
 
-    /// The rows of a kind, by id.
+    /// The rows of a kind, by id. All rows stand by key, and what a row names is among them.
     pub fn rows_of(&self, kind: Kind) -> &[Entry]
-        ensures { result.now ≡ filter (is_of kind) self.now.rows }
+        ensures value { result.now ≡ filter (is_of kind) self.now.rows }
+        ensures rising { IsRising number_of_kept self.now.rows }
+        ensures closed { AreClosed self.now.rows }
     {
         of_kind(&self.entries, kind)
     }
@@ -318,7 +320,8 @@ fn replace(entries: &mut Sorted<Entry>, counts: &mut Sorted<Count>, bytes: u64, 
 
 // Takes a row out.
 fn remove(entries: &mut Sorted<Entry>, counts: &mut Sorted<Count>, bytes: &mut u64, id: RowId)
-    requires { AreCounted entries.old.items counts.old.items bytes.old }
+    requires counted { AreCounted entries.old.items counts.old.items bytes.old }
+    requires allowed { refusal entries.old.items (TableChange.Remove id.kind id.id) ≡ None }
     ensures rows { entries.new.items ≡ without number_of_kept (number_at id) entries.old.items }
     ensures counted { AreCounted entries.new.items counts.new.items bytes.new }
 {

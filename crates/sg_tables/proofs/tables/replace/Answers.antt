@@ -36,4 +36,4 @@ returns-in-Some-clause-counted c =
     let taken = subst (λ l. (n : ℕ) → counted n mid + times n l ≡ counted n counts) c.references.ensures.value c.take_all.ensures.named in
     let added = subst (λ l. (n : ℕ) → counted n new ≡ counted n mid + times n l) ids.value c.add_all.ensures in
     subst (λ es. AreCounted es new c.args.bytes) (sym c.replace.ensures.items)
-    (counted_replace c.in-Some.old.now c.args.entry rows counts mid new c.args.bytes c.requires.counted ids.bounded c.requires.asked there taken added)
+    (counted_replace c.in-Some.old.now c.args.entry rows counts mid new c.args.bytes c.requires.counted ids.bounded c.requires.asked c.requires.allowed there taken added)
