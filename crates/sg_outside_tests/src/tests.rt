@@ -1,7 +1,9 @@
 // What the clauses don't show: that calls succeed with ample memory, and the values in worked tables.
 ghost use Rattle.std.specs.Prelude.{◌≡◌, Some};
 
-use super::*;
+use sg_outside::{
+    Ends, MemSink, MemSource, Sink, SinkFailed, Source, SourceFailed, StdSink, StdSource, put_all,
+};
 use std::alloc::Global;
 use std::io;
 use std::io::{Cursor, ErrorKind, Read};
