@@ -1,2 +1,4 @@
+pub mod Doors
+pub mod Lists
 pub mod Memory
 pub mod Streams

@@ -35,3 +35,15 @@ pub record SinkInMemory : Type 0 where
   pub written : List ℕ
   pub limit : ℕ
   pub calls : CallCount
+
+-- a connection in memory: what its client sends, and what its client gets
+pub record ConnInMemory : Type 0 where
+  pub incoming : SourceInMemory
+  pub outgoing : SinkInMemory
+
+-- a door in memory: the connections to come, those that were handed back, and whether it said that no more come
+pub record DoorInMemory : Type 0 where
+  pub coming : List ConnInMemory
+  pub back : List ConnInMemory
+  pub ended : Bool
+  pub calls : CallCount

@@ -7,7 +7,7 @@ use std::marker::Model;
 
 /// The count of an object's calls, and which of them fail.
 #[derive(Debug, Drop)]
-pub(crate) struct Calls {
+pub struct Calls {
     made: u64,
     failing: Vec<u64>,
     faults: u64,
@@ -23,7 +23,7 @@ impl Model for Calls {
 
 impl Calls {
     /// No call made, and none that is to fail.
-    pub(crate) fn new(alloc: Global) -> Calls
+    pub fn new(alloc: Global) -> Calls
         ensures { result ≡ no_calls }
     {
         Calls {
@@ -34,28 +34,28 @@ impl Calls {
     }
 
     /// Says anew which calls are to fail.
-    pub(crate) fn set_failing(&mut self, failing: Vec<u64>)
+    pub fn set_failing(&mut self, failing: Vec<u64>)
         ensures { self.new ≡ record self.old { failing = failing.items } }
     {
         self.failing = failing;
     }
 
     /// How many calls failed.
-    pub(crate) fn faults(&self) -> u64
+    pub fn faults(&self) -> u64
         ensures { result ≡ self.now.faults }
     {
         self.faults
     }
 
     /// Whether the next call is one of those that are to fail.
-    pub(crate) fn next_fails(&self) -> bool
+    pub fn next_fails(&self) -> bool
         ensures { IsTrue result ↔ NextFails self.now }
     {
         self.failing.contains(&self.made.saturating_add(1))
     }
 
     /// Counts a call, and a fault where it failed.
-    pub(crate) fn count(&mut self, failed: bool)
+    pub fn count(&mut self, failed: bool)
         ensures after { self.new ≡ after_call self.old failed }
         ensures later { self.old.faults ≤ self.new.faults }
     {

@@ -2,7 +2,8 @@
 ghost use Rattle.std.specs.Prelude.{◌≡◌, Some};
 
 use sg_outside::{
-    Ends, MemSink, MemSource, Sink, SinkFailed, Source, SourceFailed, StdSink, StdSource, put_all,
+    DoorFailed, Ends, MemSink, MemSource, Sink, SinkFailed, Source, SourceFailed, StdSink,
+    StdSource, put_all,
 };
 use std::alloc::Global;
 use std::io;
@@ -177,6 +178,7 @@ fn texts_of_faults(rt: HostRuntime) -> Result<(), Fail> {
         "the source failed"
     );
     assert_eq!(rt; SinkFailed.to_string(alloc)?.as_str(), "the sink failed");
+    assert_eq!(rt; DoorFailed.to_string(alloc)?.as_str(), "the door failed");
     Ok(())
 }
 
