@@ -26,6 +26,3 @@ pub use places::{
 };
 pub use real::FileDisk;
 pub use synced::{close_gate, write_synced};
-
-#[cfg(test)]
-mod tests;

@@ -19,6 +19,3 @@ pub use batch::Batch;
 pub use fault::{AppendFault, OpenFault};
 pub use journal::Journal;
 pub use series::append_all;
-
-#[cfg(test)]
-mod tests;

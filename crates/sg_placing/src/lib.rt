@@ -12,6 +12,3 @@ mod shelf;
 pub use gaps::{longest_gap, lowest_gap};
 pub use placed::Placed;
 pub use shelf::{Shelf, find_file, find_media, is_listed, is_same};
-
-#[cfg(test)]
-mod tests;

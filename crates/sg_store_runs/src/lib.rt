@@ -17,6 +17,3 @@ pub use call::Call;
 pub use lawful::{may_begin, may_bring, may_seal, may_switch};
 pub use runs::run;
 pub use stop::Stop;
-
-#[cfg(test)]
-mod tests;

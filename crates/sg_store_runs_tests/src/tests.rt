@@ -1,11 +1,11 @@
 // Runs over a disk in memory.
 ghost use Rattle.std.specs.Prelude.{◌<◌, ◌^◌, length};
 
-use crate::{Call, Stop, run};
 use md5::{Digest, Md5};
 use sg_base::{Listed, MediaId, Rows};
 use sg_disk::{Fuse, MemDisk, Pick};
 use sg_store::{Format, NoSpace, Store, format};
+use sg_store_runs::{Call, Stop, run};
 use std::alloc::{AllocError, Global};
 use std::test::Fail;
 

@@ -1,5 +1,5 @@
 use Rattle.std.proofs.Common.{◌≤◌}
-use Rattle.sg_journal.proofs.tests.record_many.Given as goal
+use Rattle.sg_journal_tests.proofs.tests.record_many.Given as goal
 use Rattle.sg_disk.specs.declared.places.TheConstants.{DATA}
 
 abbrev pub invariant-loop-i : goal.invariant-loop-i

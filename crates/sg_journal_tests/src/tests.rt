@@ -1,8 +1,8 @@
 ghost use Rattle.std.specs.Prelude.{◌<◌, ◌≤◌};
 
-use crate::{AppendFault, Batch, Journal, OpenFault, append_all};
 use sg_base::{Moment, PlayBody};
 use sg_disk::{Disk, FileDisk, Fuse, MemDisk, Pick};
+use sg_journal::{AppendFault, Batch, Journal, OpenFault, append_all};
 use std::alloc::{AllocError, Global};
 use std::fs;
 use std::test::Fail;

@@ -1,4 +1,4 @@
-use crate::{Disk, DiskFailed, FileDisk, Fuse, MemDisk, Pick, close_gate, write_synced};
+use sg_disk::{Disk, DiskFailed, FileDisk, Fuse, MemDisk, Pick, close_gate, write_synced};
 use std::alloc::{AllocError, Global};
 use std::fs;
 use std::test::Fail;

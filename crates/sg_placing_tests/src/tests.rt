@@ -2,10 +2,10 @@
 ghost use Rattle.std.specs.Prelude.{◌≡◌, ◌≤◌, ◌<◌, ◌^◌, All, true};
 ghost use Rattle.sg_placing.specs.Placing.{IsPlaced};
 
-use crate::{Placed, Shelf, find_file, find_media, is_listed, longest_gap, lowest_gap};
 use sg_base::limits::MAX_FILE_LEN;
 use sg_base::{Listed, MediaId};
 use sg_disk::DATA;
+use sg_placing::{Placed, Shelf, find_file, find_media, is_listed, longest_gap, lowest_gap};
 use std::test::Fail;
 
 const ROOM: u64 = 131_072;
