@@ -80,7 +80,8 @@ impl Tables {
         }
     }
 
-    fn prepare_insert(&mut self, row: &Row) -> Result<Prepared, TableRefusal>
+    /// Makes room for a row that comes in, as `prepare` does.
+    pub fn prepare_insert(&mut self, row: &Row) -> Result<Prepared, TableRefusal>
         ensures prepared { IfOk result (λ p. IsPrepared self.new p) }
         ensures change { IfOk result (λ p. change_of p ≡ TableChange.Insert row.now) }
         ensures refused { IfErr result (λ fault.
@@ -96,7 +97,8 @@ impl Tables {
         Ok(Prepared::Insert(entry))
     }
 
-    fn prepare_replace(&mut self, row: &Row) -> Result<Prepared, TableRefusal>
+    /// Makes room for a row that takes the place of another, as `prepare` does.
+    pub fn prepare_replace(&mut self, row: &Row) -> Result<Prepared, TableRefusal>
         requires { is_media row.now ≡ false }
         ensures prepared { IfOk result (λ p. IsPrepared self.new p) }
         ensures change { IfOk result (λ p. change_of p ≡ TableChange.Replace row.now) }
@@ -112,7 +114,8 @@ impl Tables {
         Ok(Prepared::Replace(entry))
     }
 
-    fn prepare_remove(&mut self, kind: Kind, id: u32) -> Result<Prepared, TableRefusal>
+    /// Finds whether a row may go, as `prepare` does.
+    pub fn prepare_remove(&mut self, kind: Kind, id: u32) -> Result<Prepared, TableRefusal>
         ensures prepared { IfOk result (λ p. IsPrepared self.new p) }
         ensures change { IfOk result (λ p. change_of p ≡ TableChange.Remove kind id) }
         ensures refused { IfErr result (λ fault.

@@ -4,7 +4,7 @@ use Rattle.std.specs.Option.{option_copied}
 use Rattle.sg_tables.specs.Entries.{Kept}
 use Rattle.sg_tables.specs.Rows.{id_in}
 use Rattle.sg_tables.specs.Tables.{is_above}
-use Rattle.sg_tables.proofs.KindLemmas.{first_passes}
+use Rattle.sg_tables.proofs.BetweenLemmas.{first_passes}
 use Rattle.sg_tables.proofs.kinds.next_id.Goals as goal
 
 pub returns-in-Some : goal.returns-in-Some

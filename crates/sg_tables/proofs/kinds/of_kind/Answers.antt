@@ -6,7 +6,8 @@ use Rattle.sg_base.specs.Rising.{found}
 use Rattle.sg_tables.specs.Entries.{Kept, number_of_kept}
 use Rattle.sg_tables.specs.Rows.{code_of}
 use Rattle.sg_tables.specs.Refusals.{is_of}
-use Rattle.sg_tables.proofs.KindLemmas.{between_filter, decides_kind}
+use Rattle.sg_tables.proofs.BetweenLemmas.{between_filter}
+use Rattle.sg_tables.proofs.KindLemmas.{decides_kind}
 use Rattle.sg_tables.proofs.kinds.of_kind.Goals as goal
 
 pub returns : goal.returns
@@ -21,4 +22,4 @@ returns c =
     (subst (λ a. AllByRecursion (λ (e : Kept). (a ≤ number_of_kept e) × (number_of_kept e < rank_of c.rank_after_kind.result)) some) start c.between.ensures.within) in
     let all = subst (λ b. (n : ℕ) → low ≤ n → n < b → found number_of_kept n some ≡ found number_of_kept n rows) end
     (subst (λ a. (n : ℕ) → a ≤ n → n < rank_of c.rank_after_kind.result → found number_of_kept n some ≡ found number_of_kept n rows) start c.between.ensures.all) in
-    between_filter (is_of c.args.kind) low high some rows c.between.ensures.rising within all c.requires.rising (decides_kind c.args.kind rows c.requires.bounded)
+    between_filter number_of_kept (is_of c.args.kind) low high some rows c.between.ensures.rising within all c.requires.rising (decides_kind c.args.kind rows c.requires.bounded)
