@@ -170,6 +170,7 @@ impl Tables {
         ensures value { result.now ≡ filter (is_of kind) self.now.rows }
         ensures rising { IsRising number_of_kept self.now.rows }
         ensures closed { AreClosed self.now.rows }
+        ensures bounded { AllByRecursion IsBounded self.now.rows }
     {
         of_kind(&self.entries, kind)
     }
