@@ -1,0 +1,3 @@
+pub mod SoundSaved
+pub mod ReplyLemmas
+pub mod SavedLemmas
