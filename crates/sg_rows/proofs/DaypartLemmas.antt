@@ -1,12 +1,10 @@
 -- A daypart that was made has its exceptions by weekday and its dates ascending.
-use Rattle.std.proofs.Common.{◌≡◌, ℕ, nat_lt, length, Bool, true, false, List, [], Option, Some, None, refl}
-use Rattle.std.specs.Prelude.{if◌then◌else◌}
+use Rattle.std.proofs.Common.{◌≡◌, ℕ, nat_lt, length, List, [], None, refl}
 use Rattle.std.specs.List.{AllByRecursion, IsDistinct}
 use Rattle.std.specs.List.Sorted.{IsPermutation}
 use Rattle.sg_base.specs.declared.ids.DaypartId.{DaypartId}
 use Rattle.sg_base.specs.declared.limits.TheConstants.{MAX_DATES}
 use Rattle.sg_base.specs.declared.daypart.Window.{Window}
-use Rattle.sg_base.specs.declared.daypart.DaypartFault.{DaypartFault}
 use Rattle.sg_base.specs.declared.daypart.DaypartFault.TheVariants.{DoubleWeekday, ManyDates, DoubleDate}
 use Rattle.sg_base.specs.Faults.{first_of, first_in}
 use Rattle.sg_base.specs.Daypart.{DaypartRow, IsDaypart, Ascends, weekday_fault, double_fault, weekdays_fault, date_fault, double_date_fault, dates_fault, times_fault, daypart_fault}

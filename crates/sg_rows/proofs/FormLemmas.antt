@@ -1,6 +1,6 @@
 -- What a form allows of a row that was read.
-use Rattle.std.proofs.Common.{◌≡◌, ◌≢◌, ℕ, ◌^◌, ◌==◌, nat_lt, Bool, true, false, List, [], Option, Some, None, Result, Ok, Err, refl, sym, ◌∙◌, eqb-true}
-use Rattle.std.proofs.lemmas.Bool.{eqb-false, ltb-false}
+use Rattle.std.proofs.Common.{◌≡◌, ◌≢◌, ℕ, ◌^◌, ◌==◌, nat_lt, Bool, true, false, List, [], Option, Some, None, Result, Ok, refl, ◌∙◌}
+use Rattle.std.proofs.lemmas.Bool.{eqb-false}
 use Rattle.std.specs.Prelude.{IfSome, codes, if◌then◌else◌, is_some, unwrap_or, option_map, option_and_then}
 use Rattle.std.specs.Str.{bytes_eq}
 use Rattle.serde_json.specs.Data.{Data}
@@ -16,7 +16,7 @@ use Rattle.sg_rows.specs.declared.fault.RowFault.{RowFault}
 use Rattle.sg_rows.specs.declared.fault.RowFault.TheVariants.{Shape}
 use Rattle.sg_rows.specs.Faults.{◌>>=◌, wants}
 use Rattle.sg_rows.specs.Order.{sorted_by}
-use Rattle.sg_rows.specs.Parts.{exactly, member_at, number_at, nullable_at, null_or, text_at, below}
+use Rattle.sg_rows.specs.Parts.{exactly, member_at, number_at, nullable_at, null_or, below}
 use Rattle.sg_rows.specs.Forms.{has_new, new_member_at, AllowsDates, AllowsUnit, is_month_weekday, is_later_repeat, is_later_layer, is_later_event}
 use Rattle.sg_rows.specs.Reading.{days_at, unit_of, unit_at, repeat_at}
 use Rattle.sg_rows.proofs.BindLemmas.{bind_ok}

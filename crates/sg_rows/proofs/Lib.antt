@@ -13,3 +13,5 @@ pub mod SoundRows
 pub mod AgainRows
 pub mod AgainSchedules
 pub mod ReadSound
+pub mod WrittenLemmas
+pub mod Weights

@@ -1,5 +1,5 @@
 -- Each row that JSON says is valid, and the form can say it.
-use Rattle.std.proofs.Common.{◌≡◌, ◌≢◌, ℕ, zero, suc, ◌+◌, ◌-◌, ◌*◌, ◌^◌, ◌<◌, ◌≤◌, ◌&&◌, nat_lt, nat_le, Bool, true, false, not, List, [], ◌∷◌, length, get_or, Option, Some, None, Result, Ok, Err, refl, sym, subst, ◌∙◌, arith}
+use Rattle.std.proofs.Common.{◌≡◌, ℕ, zero, suc, ◌+◌, ◌-◌, ◌^◌, ◌<◌, ◌≤◌, ◌&&◌, nat_lt, nat_le, Bool, true, false, not, List, [], ◌∷◌, length, get_or, Option, Some, None, Result, Ok, Err, refl, sym, subst, ◌∙◌, arith}
 use Rattle.std.proofs.lemmas.Bool.{ltb-true, ltb-false, and_parts}
 use Rattle.std.specs.Prelude.{IfSome, IsOk, codes, if◌then◌else◌, is_some, option_and_then}
 use Rattle.std.specs.Result.{result_ok}
@@ -7,17 +7,16 @@ use Rattle.std.specs.List.{AllByRecursion, IsDistinct, list_all}
 use Rattle.std.specs.List.Sorted.{IsNonDecreasingBy}
 use borrow.Author.Tests.{leb-true}
 use Rattle.serde_json.specs.Data.{Data, Items, no_items, item}
-use Rattle.serde_json.specs.Find.{get, as_null, as_array, as_number, as_u64, as_str}
-use Rattle.hex.specs.Hex.{IsBytes, decode_sized, decode_pairs, decode_of}
+use Rattle.serde_json.specs.Find.{get, as_null, as_number, as_u64}
+use Rattle.hex.specs.Hex.{IsBytes, decode_sized}
 use Rattle.hex.specs.declared.error.FromHexError.{FromHexError}
 use Rattle.hex.proofs.HexLemmas.{decode_pairs-ok, decode_of-even, decode_sized-ok, decode_sized-twice}
-use Rattle.sg_base.specs.declared.limits.TheConstants.{MAX_FILE_LEN, MAX_CAMPAIGN_LAYOUTS, MAX_LAYER}
+use Rattle.sg_base.specs.declared.limits.TheConstants.{MAX_FILE_LEN, MAX_CAMPAIGN_LAYOUTS}
 use Rattle.sg_base.specs.declared.ids.LayoutId.{LayoutId}
 use Rattle.sg_base.specs.declared.layout.Item.{Item}
 use Rattle.sg_base.specs.declared.layout.Region.{Region}
 use Rattle.sg_base.specs.declared.campaign.Campaign.{Campaign as CampaignRow}
 use Rattle.sg_base.specs.declared.daypart.Window.{Window}
-use Rattle.sg_base.specs.declared.daypart.DaypartFault.TheVariants.{DoubleWeekday, DoubleDate}
 use Rattle.sg_base.specs.declared.event.When.{When}
 use Rattle.sg_base.specs.declared.event.When.TheVariants.{Always, Custom, Named}
 use Rattle.sg_base.specs.declared.event.Target.{Target}
@@ -25,7 +24,7 @@ use Rattle.sg_base.specs.declared.event.Target.TheVariants.{Layout, Campaign}
 use Rattle.sg_base.specs.declared.file.Listed.{Listed}
 use Rattle.sg_base.specs.declared.zone.ZoneRule.{ZoneRule}
 use Rattle.sg_base.specs.Layout.{LayoutRow}
-use Rattle.sg_base.specs.Daypart.{DaypartRow, IsDaypart, daypart_fault}
+use Rattle.sg_base.specs.Daypart.{DaypartRow, daypart_fault}
 use Rattle.sg_base.specs.Repeat.{RepeatRow, IsRepeat, repeat_fault}
 use Rattle.sg_base.specs.Event.{EventValue, event_fault}
 use Rattle.sg_base.proofs.DaypartLemmas.{daypart_ordered}
@@ -33,16 +32,15 @@ use Rattle.sg_base.proofs.DoubleLemmas.{same}
 use Rattle.sg_calendar.specs.Zone.{ZoneView, zone_of}
 use Rattle.sg_calendar.specs.declared.zone.ZoneFault.{ZoneFault}
 use Rattle.sg_rows.specs.declared.form.RowForm.{RowForm}
-use Rattle.sg_rows.specs.declared.form.RowForm.TheVariants.{Version1, Version2, Edit}
 use Rattle.sg_rows.specs.declared.fault.RowFault.{RowFault}
 use Rattle.sg_rows.specs.declared.fault.RowFault.TheVariants.{Shape}
 use Rattle.sg_rows.specs.declared.fault.RowFault.TheVariants as fault
 use Rattle.sg_rows.specs.Faults.{◌>>=◌, needs, wants, faultless}
 use Rattle.sg_rows.specs.Order.{sorted_by}
 use Rattle.sg_rows.specs.Parts.{exactly, has_member, member_at, number_at, positive, id_at, is_digit, digest_at, text_at, each_at, items_at, list_at, nullable_at, null_or, below}
-use Rattle.sg_rows.specs.Forms.{has_new, new_member_at, with_new, event_members, is_later_daypart, is_later_event, AllowsDates, AllowsUnit}
+use Rattle.sg_rows.specs.Forms.{has_new, new_member_at, with_new, event_members, is_later_daypart, is_later_event, AllowsDates}
 use Rattle.sg_rows.specs.Rows.{IsId, IsItem, IsRegion, IsLayoutRow, IsLayoutId, IsCampaignRow, IsWindow, IsException, IsDate, IsDaypartRow, IsTarget, IsWhen, IsRepeatRow, IsEventParts, IsEventRow, IsListed}
-use Rattle.sg_rows.specs.Reading.{file_length, file_at, item_at, region_at, layout_at, layout_id_at, some_layouts, campaign_at, window_at, small, exception_at, date_at, daypart_at, with_bit, with_weekday, days_from, days_at, unit_at, repeat_at, layout_target, campaign_target, target_at, true_at, always_at, custom_at, named_at, when_at, parts_at, made_repeat, made_event, event_at, rule_at, telling, zone_at}
+use Rattle.sg_rows.specs.Reading.{file_length, file_at, item_at, region_at, layout_at, layout_id_at, some_layouts, campaign_at, window_at, small, exception_at, date_at, daypart_at, with_bit, with_weekday, days_from, days_at, unit_at, repeat_at, layout_target, campaign_target, target_at, true_at, always_at, custom_at, named_at, when_at, parts_at, made_repeat, event_at, rule_at, telling, zone_at}
 use Rattle.sg_rows.specs.Zone.{IsZone}
 use Rattle.sg_rows.proofs.BindLemmas.{bind_ok, needs_ok}
 use Rattle.sg_rows.proofs.RowLemmas.{regions_have_ids}

@@ -1,5 +1,5 @@
 -- The JSON of a valid row is plain, and nests no deeper than the rows of a manifest may.
-use Rattle.std.proofs.Common.{◌≡◌, ℕ, ◌-◌, ◌/◌, ◌%◌, ◌^◌, ◌<◌, ◌==◌, ◌&&◌, nat_lt, Bool, true, false, List, [], ◌∷◌, filter, arith, refl}
+use Rattle.std.proofs.Common.{◌≡◌, ℕ, ◌-◌, ◌/◌, ◌%◌, ◌^◌, ◌<◌, ◌≤◌, ◌==◌, ◌&&◌, length, nat_lt, Bool, true, false, List, [], ◌∷◌, filter, arith, refl}
 use Rattle.std.proofs.lemmas.Int.{ints}
 use Rattle.std.proofs.lemmas.Bool.{and_parts, ltb-true}
 use Rattle.std.proofs.lemmas.Str.{IsUtf8-from_ascii}
@@ -95,6 +95,17 @@ AllByRecursion-filter P p (x ∷ xs) h = kept_or_not P (p x) x (filter p xs) h.0
 pub weekdays_small : (days : ℕ) → AllByRecursion IsSmall (weekdays days)
 weekdays_small days = AllByRecursion-filter IsSmall (λ w. days / 2 ^ (w - 1) % 2 == 1) (1 ∷ 2 ∷ 3 ∷ 4 ∷ 5 ∷ 6 ∷ 7 ∷ [])
     (omega arith, (omega arith, (omega arith, (omega arith, (omega arith, (omega arith, (omega arith, tt)))))))
+
+kept_length : {A : Type 0} (x : A) (ys zs : List A) (b : Bool) → length ys ≤ length zs → length (if b then x ∷ ys else ys) ≤ length (x ∷ zs)
+kept_length x ys zs true h = omega arith
+kept_length x ys zs false h = omega arith
+
+length-filter : {A : Type 0} (p : A → Bool) (xs : List A) → length (filter p xs) ≤ length xs
+length-filter p [] = omega arith
+length-filter p (x ∷ xs) = kept_length x (filter p xs) xs (p x) (length-filter p xs)
+
+pub weekdays_few : (days : ℕ) → length (weekdays days) ≤ 7
+weekdays_few days = length-filter (λ w. days / 2 ^ (w - 1) % 2 == 1) (1 ∷ 2 ∷ 3 ∷ 4 ∷ 5 ∷ 6 ∷ 7 ∷ [])
 
 unit_sound : (u : RepeatUnit) → Sound 3 (string (unit_text u))
 unit_sound Hour = Sound-literal _ refl

@@ -1,5 +1,5 @@
 -- Zone rules: their minutes lie within 14 hours of UTC, and their texts are ASCII.
-use Rattle.std.proofs.Common.{◌≡◌, ℕ, ◌<◌, ◌≤◌, ◌&&◌, nat_le, Bool, true, false, List, [], ◌∷◌, ℤ, pos, negsuc, refl, arith}
+use Rattle.std.proofs.Common.{◌≡◌, ℕ, ◌<◌, ◌≤◌, ◌&&◌, nat_le, Bool, true, false, List, [], ◌∷◌, length, ℤ, pos, negsuc, refl, arith}
 use Rattle.std.proofs.lemmas.Int.{ints}
 use Rattle.std.proofs.lemmas.Bool.{and_parts, le-ltb, ltb-false}
 use Rattle.std.proofs.lemmas.Str.{IsUtf8-from_ascii}
@@ -11,8 +11,8 @@ use Rattle.sg_base.specs.declared.zone.ZoneRule.TheVariants.{Offset, Posix}
 use Rattle.sg_base.specs.declared.zone.ZoneRule.{ZoneRule}
 use Rattle.sg_calendar.specs.Zone.{ZoneView, is_text, zone_of, zone_of_text}
 use Rattle.sg_calendar.specs.declared.zone.ZoneFault.{ZoneFault}
-use Rattle.sg_rows.specs.declared.fault.RowFault.{RowFault}
-use Rattle.sg_rows.specs.Zone.{IsZone, IsMinutes}
+use Rattle.sg_base.specs.declared.limits.TheConstants.{MAX_ZONE_TEXT}
+use Rattle.sg_rows.specs.Zone.{IsZone, IsMinutes, ArePrintable}
 use Rattle.sg_rows.specs.Reading.{telling}
 
 -- minutes within 14 hours are a zone
@@ -59,3 +59,26 @@ told (Err e) rule h = absurd (cc)
 -- a rule that tells a zone is the one that is kept
 pub telling_again : (rule : ZoneRule) → IsZone rule → telling (zone_of rule) rule ≡ Ok rule
 telling_again rule h = told (zone_of rule) rule h
+
+short_text : (text : List ℕ) (b : Bool) → is_text text ≡ b → IsOk (zone_of_text text) → length text ≤ MAX_ZONE_TEXT
+unfolding zone_of_text
+short_text text true e h = leb-true (length text) MAX_ZONE_TEXT (and_parts _ _ (and_parts _ _ e).1).0
+short_text text false e h = let refused : false ≡ true = rw e at h in absurd (cc)
+
+-- a text of a zone is short
+pub short_zone : (text : List ℕ) → IsZone (Posix text) → length text ≤ MAX_ZONE_TEXT
+short_zone text h = short_text text (is_text text) refl h
+
+all_printable : (bs : List ℕ) → list_all (λ b. nat_le 32 b && nat_le b 126) bs ≡ true → ArePrintable bs
+all_printable [] e = tt
+all_printable (b ∷ bs) e =
+    let parts = and_parts _ _ e in
+    (leb-true 32 b (and_parts _ _ parts.0).0, all_printable bs parts.1)
+
+printable_text : (text : List ℕ) (b : Bool) → is_text text ≡ b → IsOk (zone_of_text text) → ArePrintable text
+unfolding zone_of_text
+printable_text text true e h = all_printable text (and_parts _ _ (and_parts _ _ e).1).1
+printable_text text false e h = let refused : false ≡ true = rw e at h in absurd (cc)
+
+pub printable_zone : (text : List ℕ) → IsZone (Posix text) → ArePrintable text
+printable_zone text h = printable_text text (is_text text) refl h

@@ -7,4 +7,5 @@ pub mod Forms
 pub mod Order
 pub mod Reading
 pub mod Ids
+pub mod Written
 pub mod Compact

@@ -1,5 +1,5 @@
 -- The parts of rows in JSON: members, numbers, ids, digests, lists.
-use Rattle.std.specs.Prelude.{ℕ, ◌+◌, ◌^◌, ◌==◌, ◌&&◌, ◌||◌, ℤ, int_lt, pos, negsuc, List, [], ◌∷◌, ◌++◌, length, nat_lt, nat_le, Bool, true, false, if◌then◌else◌, is_some, unwrap_or, Option, Some, None, option_map, option_and_then, Result, Ok, Err}
+use Rattle.std.specs.Prelude.{ℕ, ◌+◌, ◌^◌, ◌==◌, ◌&&◌, ◌||◌, ℤ, int_lt, pos, negsuc, List, [], ◌∷◌, ◌++◌, nat_lt, nat_le, Bool, true, false, if◌then◌else◌, is_some, unwrap_or, Option, Some, None, option_map, option_and_then, Result, Ok, Err}
 use Rattle.std.specs.Result.{result_ok}
 use Rattle.std.specs.List.{list_all}
 use Rattle.serde_json.specs.Data.{Data, Items, no_items, item, Members, no_members, member}

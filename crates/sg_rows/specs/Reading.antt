@@ -1,9 +1,9 @@
 -- The row that JSON says, or its first fault: `Later`, then `Shape`, then that of the row's constructor. Members may
 -- come in any order; which text is the canonical one is no question of a row.
-use Rattle.std.specs.Prelude.{ℕ, ◌+◌, ◌-◌, ◌^◌, ◌&&◌, ◌==◌, nat_lt, nat_le, Bool, true, false, not, List, [], ◌∷◌, codes, length, if◌then◌else◌, is_some, unwrap_or, Option, Some, None, option_map, option_and_then, Result, Ok, Err}
+use Rattle.std.specs.Prelude.{ℕ, ◌+◌, ◌-◌, ◌^◌, ◌&&◌, nat_lt, nat_le, Bool, false, not, List, [], codes, length, if◌then◌else◌, unwrap_or, Option, Some, None, Result, Ok, Err}
 use Rattle.std.specs.Str.{bytes_eq}
 use Rattle.serde_json.specs.Data.{Data, Items, no_items, item}
-use Rattle.serde_json.specs.Find.{get, as_bool, as_str, as_array}
+use Rattle.serde_json.specs.Find.{as_bool}
 use Rattle.sg_base.specs.declared.ids.LayoutId.{LayoutId}
 use Rattle.sg_base.specs.declared.layout.Item.{Item}
 use Rattle.sg_base.specs.declared.layout.Region.{Region}
@@ -31,7 +31,7 @@ use Rattle.sg_rows.specs.declared.fault.RowFault.{RowFault}
 use Rattle.sg_rows.specs.declared.fault.RowFault.TheVariants as fault
 use Rattle.sg_rows.specs.declared.fault.RowFault.TheVariants.{Shape, Later}
 use Rattle.sg_rows.specs.Faults.{◌>>=◌, needs, wants, faultless}
-use Rattle.sg_rows.specs.Parts.{exactly, has_count, has_member, member_at, number_at, positive, id_at, text_at, integer_at, digest_at, items_at, list_at, nullable_at}
+use Rattle.sg_rows.specs.Parts.{exactly, has_member, member_at, number_at, positive, id_at, text_at, integer_at, digest_at, items_at, list_at, nullable_at}
 use Rattle.sg_rows.specs.Order.{sorted_by}
 
 -- ---- files

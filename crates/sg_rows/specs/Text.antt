@@ -47,19 +47,24 @@ layout_id_json l = whole l.0
 abbrev pub campaign_json : CampaignRow → Data
 campaign_json c = object (member (codes "id") (whole c.id.0) (member (codes "layouts") (list_of layout_id_json c.layouts) no_members))
 
+abbrev pub window_members : Window → Members
+window_members w = member (codes "end") (whole w.end) (member (codes "start") (whole w.start) no_members)
+
 abbrev pub exception_json : ℕ × Window → Data
-exception_json e = object (member (codes "day") (whole e.0) (member (codes "end") (whole e.1.end) (member (codes "start") (whole e.1.start) no_members)))
+exception_json e = object (member (codes "day") (whole e.0) (window_members e.1))
 
 abbrev pub date_json : ℕ × Window → Data
-date_json e = object (member (codes "date") (whole e.0) (member (codes "end") (whole e.1.end) (member (codes "start") (whole e.1.start) no_members)))
+date_json e = object (member (codes "date") (whole e.0) (window_members e.1))
 
 -- the members of a daypart without dates, as version 1 has them, and a server before version 2
-abbrev pub daypart_members : DaypartRow → Members
-daypart_members d =
-    member (codes "end") (whole d.window.end)
-    (member (codes "exceptions") (list_of exception_json d.exceptions)
+abbrev pub later_members : DaypartRow → Members
+later_members d =
+    member (codes "exceptions") (list_of exception_json d.exceptions)
     (member (codes "id") (whole d.id.0)
-    (member (codes "start") (whole d.window.start) no_members)))
+    (member (codes "start") (whole d.window.start) no_members))
+
+abbrev pub daypart_members : DaypartRow → Members
+daypart_members d = member (codes "end") (whole d.window.end) (later_members d)
 
 abbrev pub undated_json : DaypartRow → Data
 undated_json d = object (daypart_members d)

@@ -9,8 +9,10 @@ ghost use Rattle.sg_rows.specs.Reading.{some_layouts};
 use crate::entry::{Entry, read_list, write_list};
 use crate::fault::RowFault;
 use crate::form::RowForm;
+use crate::out::TextOut;
 use crate::part;
 use crate::row::ManifestRow;
+use crate::writing::{put_list, put_number};
 use serde_json::{Value, json};
 use sg_base::limits::MAX_CAMPAIGN_LAYOUTS;
 use sg_base::{Campaign, CampaignId, LayoutId, Rows};
@@ -35,6 +37,10 @@ impl Entry for LayoutId {
     fn read(_alloc: Global, value: &Value) -> Result<LayoutId, RowFault> {
         let id = part::whole_id(value)?;
         Ok(LayoutId(id))
+    }
+
+    fn put<O: TextOut>(&self, out: &mut O) -> Result<(), O::Error> {
+        put_number(out, b"", self.0)
     }
 }
 
@@ -83,5 +89,12 @@ impl ManifestRow for Campaign {
 
     fn key(&self) -> u32 {
         self.id.0
+    }
+
+    #[tactic(auto, unfolding(json::specs::Print::escape_byte))]
+    fn put<O: TextOut>(&self, _form: RowForm, out: &mut O) -> Result<(), O::Error> {
+        put_number(out, b"{\"id\":", self.id.0)?;
+        put_list(out, b",\"layouts\":[", self.layouts.as_slice())?;
+        out.put(b"}")
     }
 }

@@ -1,6 +1,6 @@
 //! Dayparts in JSON: a window, with other windows for weekdays and for dates.
 
-ghost use Rattle.std.specs.Prelude.{◌≡◌, ◌^◌, ◌<◌, [], IfOk, not, codes};
+ghost use Rattle.std.specs.Prelude.{◌≡◌, ◌^◌, ◌<◌, ◌++◌, [], true, decimal, IfOk, OnOk, not, codes};
 ghost use Rattle.std.specs.List.{AllByRecursion};
 ghost use Rattle.serde_json.specs.View.{view};
 ghost use Rattle.sg_base.specs.Daypart.{IsDaypart, daypart_fault};
@@ -10,14 +10,17 @@ ghost use Rattle.sg_rows.specs.Order.{sorted_by};
 ghost use Rattle.sg_rows.specs.Parts.{exactly, list_at};
 ghost use Rattle.sg_rows.specs.Rows.{IsWindow, IsException, IsDate, IsDaypartRow, IsId};
 ghost use Rattle.sg_rows.specs.Reading.{small, window_at, date_at};
-ghost use Rattle.sg_rows.specs.Text.{list_of, date_json, exception_json, undated_json, dated_json};
+ghost use Rattle.sg_rows.specs.Written.{Takes, text_before, members_before};
+ghost use Rattle.sg_rows.specs.Text.{list_of, window_members, later_members, date_json, exception_json, undated_json, dated_json};
 ghost use Rattle.sg_rows.specs.declared.fault.RowFault.TheVariants.{Later, Daypart as DaypartCause};
 
 use crate::entry::{Entry, read_list, write_list};
 use crate::fault::RowFault;
 use crate::form::RowForm;
+use crate::out::TextOut;
 use crate::part;
 use crate::row::ManifestRow;
+use crate::writing::{put_list, put_number};
 use serde_json::{Value, json};
 use sg_base::{Daypart, DaypartId, Window};
 use std::alloc::{AllocError, Global};
@@ -43,6 +46,16 @@ fn window(value: &Value) -> Result<Window, RowFault>
     Ok(Window { start, end })
 }
 
+/// Writes the last members of an exception or of a date.
+#[tactic(auto, unfolding(json::specs::Print::escape_byte))]
+fn put_window<O: TextOut>(out: &mut O, window: Window) -> Result<(), O::Error>
+    ensures { OnOk result (Takes O.after out.old out.new (members_before true (window_members window))) }
+{
+    put_number(out, b",\"end\":", window.end)?;
+    put_number(out, b",\"start\":", window.start)?;
+    out.put(b"}")
+}
+
 #[tactic(auto, unfolding(crate::specs::Reading::exception_at))]
 impl Entry for (u8, Window) {
     ghost use Rattle.sg_rows.specs.Text.{exception_json};
@@ -64,6 +77,12 @@ impl Entry for (u8, Window) {
         let day = small(part::number(value, "day")?)?;
         let window = window(value)?;
         Ok((day, window))
+    }
+
+    #[tactic(auto, unfolding(json::specs::Print::escape_byte))]
+    fn put<O: TextOut>(&self, out: &mut O) -> Result<(), O::Error> {
+        put_number(out, b"{\"day\":", u32::from(self.0))?;
+        put_window(out, self.1)
     }
 }
 
@@ -88,6 +107,12 @@ impl Entry for (u32, Window) {
         let date = part::number(value, "date")?;
         let window = window(value)?;
         Ok((date, window))
+    }
+
+    #[tactic(auto, unfolding(json::specs::Print::escape_byte))]
+    fn put<O: TextOut>(&self, out: &mut O) -> Result<(), O::Error> {
+        put_number(out, b"{\"date\":", self.0)?;
+        put_window(out, self.1)
     }
 }
 
@@ -204,6 +229,38 @@ fn write_dated(alloc: Global, daypart: &Daypart) -> Result<Value, AllocError>
     })
 }
 
+/// Writes a piece and the members of a daypart without its dates, the name of the first in the piece.
+#[tactic(auto, unfolding(json::specs::Print::escape_byte))]
+fn put_members<O: TextOut>(out: &mut O, piece: &[u8], daypart: &Daypart) -> Result<(), O::Error>
+    ensures { OnOk result (Takes O.after out.old out.new
+        (λ rest. piece.now ++ (decimal daypart.now.window.end
+        ++ members_before true (later_members daypart.now) rest))) }
+{
+    let window = daypart.window();
+    put_number(out, piece, window.end)?;
+    put_list(out, b",\"exceptions\":[", daypart.exceptions())?;
+    put_number(out, b",\"id\":", daypart.id().0)?;
+    put_number(out, b",\"start\":", window.start)?;
+    out.put(b"}")?;
+    Ok(())
+}
+
+#[tactic(auto, unfolding(json::specs::Print::escape_byte))]
+fn put_undated<O: TextOut>(out: &mut O, daypart: &Daypart) -> Result<(), O::Error>
+    ensures { OnOk result (Takes O.after out.old out.new (text_before (undated_json daypart.now))) }
+{
+    put_members(out, b"{\"end\":", daypart)
+}
+
+#[tactic(auto, unfolding(json::specs::Print::escape_byte))]
+fn put_dated<O: TextOut>(out: &mut O, daypart: &Daypart) -> Result<(), O::Error>
+    ensures { OnOk result (Takes O.after out.old out.new (text_before (dated_json daypart.now))) }
+{
+    put_list(out, b"{\"dates\":[", daypart.dates())?;
+    put_members(out, b",\"end\":", daypart)?;
+    Ok(())
+}
+
 #[tactic(auto, unfolding(crate::specs::Reading::daypart_at))]
 impl ManifestRow for Daypart {
     ghost use Rattle.sg_rows.specs.Text.{daypart_json};
@@ -237,5 +294,12 @@ impl ManifestRow for Daypart {
 
     fn key(&self) -> u32 {
         self.id().0
+    }
+
+    fn put<O: TextOut>(&self, form: RowForm, out: &mut O) -> Result<(), O::Error> {
+        match form {
+            RowForm::Version1 => put_undated(out, self),
+            RowForm::Version2 | RowForm::Edit => put_dated(out, self),
+        }
     }
 }

@@ -1,15 +1,17 @@
 //! Entries and lists of entries, from JSON and to it.
 
-ghost use Rattle.std.specs.Prelude.{◌≡◌, ℕ, IfOk, Result};
+ghost use Rattle.std.specs.Prelude.{◌≡◌, ℕ, IfOk, OnOk, Result};
 ghost use Rattle.std.specs.List.{AllByRecursion};
 ghost use Rattle.serde_json.specs.Data.{Data};
 ghost use Rattle.serde_json.specs.View.{view, items_view};
 ghost use Rattle.sg_rows.specs.Faults.{Gives};
 ghost use Rattle.sg_rows.specs.Parts.{list_at};
 ghost use Rattle.sg_rows.specs.Text.{list_of};
+ghost use Rattle.sg_rows.specs.Written.{Takes, text_before};
 ghost use Rattle.sg_rows.specs.declared.fault.RowFault.{RowFault};
 
 use crate::fault::RowFault;
+use crate::out::TextOut;
 use crate::part;
 use serde_json::Value;
 use std::alloc::{AllocError, Global};
@@ -31,6 +33,10 @@ pub trait Entry: Sized + Drop {
     fn read(alloc: Global, value: &Value) -> Result<Self, RowFault>
         ensures gives { Gives (λ x. x) result (at (view value.now)) }
         ensures sound { IfOk result valid };
+
+    /// Writes the entry's text.
+    fn put<O: TextOut>(&self, out: &mut O) -> Result<(), O::Error>
+        ensures { OnOk result (Takes O.after out.old out.new (text_before (json self.now))) };
 }
 
 /// A row that is known by a number.

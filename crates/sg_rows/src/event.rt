@@ -1,8 +1,9 @@
 //! Events in JSON.
 
-ghost use Rattle.std.specs.Prelude.{◌≡◌, false, IfOk, OnOk, not, codes};
+ghost use Rattle.std.specs.Prelude.{◌≡◌, true, false, IfOk, OnOk, not, codes};
 ghost use Rattle.serde_json.specs.View.{view};
-ghost use Rattle.sg_rows.specs.Text.{target_json, when_json, event_json};
+ghost use Rattle.sg_rows.specs.Text.{target_json, when_json, event_json, last_members};
+ghost use Rattle.sg_rows.specs.Written.{Takes, text_before, members_before};
 ghost use Rattle.sg_rows.specs.Forms.{event_members, is_later_layer, is_later_event, new_member_at, with_new};
 ghost use Rattle.sg_rows.specs.declared.form.RowForm.TheVariants.{Version1, Version2};
 ghost use Rattle.sg_rows.specs.Faults.{Gives, needs};
@@ -13,9 +14,11 @@ ghost use Rattle.sg_rows.specs.declared.fault.RowFault.TheVariants.{Later};
 
 use crate::fault::RowFault;
 use crate::form::RowForm;
+use crate::out::TextOut;
 use crate::part;
-use crate::repeat::{RepeatParts, is_later, made_repeat, read_repeat, write_repeat};
+use crate::repeat::{RepeatParts, is_later, made_repeat, put_repeat, read_repeat, write_repeat};
 use crate::row::ManifestRow;
+use crate::writing::put_number;
 use serde_json::{Value, json};
 use sg_base::limits::MAX_LAYER;
 use sg_base::{CampaignId, DaypartId, Event, EventId, LayoutId, Target, When};
@@ -286,6 +289,80 @@ fn write_layered(alloc: Global, event: &Event) -> Result<Value, AllocError>
     })
 }
 
+/// Writes what an event shows.
+#[tactic(auto, unfolding(json::specs::Print::escape_byte))]
+fn put_target<O: TextOut>(out: &mut O, target: Target) -> Result<(), O::Error>
+    ensures { OnOk result (Takes O.after out.old out.new (text_before (target_json target))) }
+{
+    match target {
+        Target::Layout(layout) => {
+            put_number(out, b"{\"layout\":", layout.0)?;
+            out.put(b"}")
+        }
+        Target::Campaign(campaign) => {
+            put_number(out, b"{\"campaign\":", campaign.0)?;
+            out.put(b"}")
+        }
+    }
+}
+
+/// Writes when an event is shown.
+#[tactic(auto, unfolding(json::specs::Print::escape_byte))]
+fn put_when<O: TextOut>(out: &mut O, when: When) -> Result<(), O::Error>
+    ensures { OnOk result (Takes O.after out.old out.new (text_before (when_json when))) }
+{
+    match when {
+        When::Always => out.put(b"{\"always\":true}"),
+        When::Custom { from, to } => {
+            put_number(out, b"{\"from\":", from)?;
+            put_number(out, b",\"to\":", to)?;
+            out.put(b"}")
+        }
+        When::Named { daypart, date } => {
+            put_number(out, b"{\"date\":", date)?;
+            put_number(out, b",\"daypart\":", daypart.0)?;
+            out.put(b"}")
+        }
+    }
+}
+
+/// Writes the members of an event behind its id and its layer.
+#[tactic(auto, unfolding(json::specs::Print::escape_byte))]
+fn put_last<O: TextOut>(out: &mut O, event: &Event) -> Result<(), O::Error>
+    ensures { OnOk result (Takes O.after out.old out.new (members_before true (last_members event.now))) }
+{
+    put_number(out, b",\"order\":", event.order())?;
+    put_number(out, b",\"priority\":", event.priority())?;
+    out.put(b",\"repeat\":")?;
+    put_repeat(out, event.repeat())?;
+    put_number(out, b",\"share\":", event.share())?;
+    out.put(b",\"target\":")?;
+    put_target(out, event.target())?;
+    out.put(b",\"when\":")?;
+    put_when(out, event.when())?;
+    out.put(b"}")?;
+    Ok(())
+}
+
+#[tactic(auto, unfolding(json::specs::Print::escape_byte))]
+fn put_flat<O: TextOut>(out: &mut O, event: &Event) -> Result<(), O::Error>
+    ensures { OnOk result (Takes O.after out.old out.new (text_before (event_json Version1 event.now))) }
+{
+    put_number(out, b"{\"id\":", event.id().0)?;
+    put_last(out, event)?;
+    Ok(())
+}
+
+#[tactic(auto, unfolding(json::specs::Print::escape_byte))]
+fn put_layered<O: TextOut>(out: &mut O, event: &Event) -> Result<(), O::Error>
+    ensures { OnOk result (Takes O.after out.old out.new (text_before (event_json Version2 event.now))) }
+{
+    put_number(out, b"{\"id\":", event.id().0)?;
+    put_number(out, b",\"layer\":", event.layer())?;
+    put_last(out, event)?;
+    Ok(())
+}
+
 #[tactic(auto, unfolding(crate::specs::Reading::event_at))]
 impl ManifestRow for Event {
     ghost use Rattle.sg_rows.specs.Text.{event_json};
@@ -314,5 +391,12 @@ impl ManifestRow for Event {
 
     fn key(&self) -> u32 {
         self.id().0
+    }
+
+    fn put<O: TextOut>(&self, form: RowForm, out: &mut O) -> Result<(), O::Error> {
+        match form {
+            RowForm::Version1 => put_flat(out, self),
+            RowForm::Version2 | RowForm::Edit => put_layered(out, self),
+        }
     }
 }

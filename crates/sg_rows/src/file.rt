@@ -1,13 +1,19 @@
 //! Listed files in JSON.
 
-ghost use Rattle.std.specs.Prelude.{◌≡◌, ◌≤◌, IfOk};
+ghost use Rattle.std.specs.Prelude.{◌≡◌, ◌≤◌, ◌++◌, length, IfOk, OnOk};
+ghost use Rattle.json.specs.Print.{escape};
+ghost use Rattle.hex.specs.Hex.{encode_lower};
 ghost use Rattle.sg_rows.specs.Faults.{Gives};
+ghost use Rattle.sg_rows.specs.Written.{Takes};
 ghost use Rattle.sg_rows.specs.Reading.{file_length};
 
 use crate::fault::RowFault;
 use crate::form::RowForm;
+use crate::out::TextOut;
 use crate::part;
 use crate::row::ManifestRow;
+use crate::writing::put_number;
+use hex::encode_to_slice;
 use serde_json::{Value, json};
 use sg_base::limits::MAX_FILE_LEN;
 use sg_base::{Listed, MediaId};
@@ -46,6 +52,28 @@ impl ManifestRow for Listed {
 
     fn key(&self) -> u32 {
         self.media.0
+    }
+
+    #[tactic(auto, unfolding(json::specs::Print::escape_byte))]
+    fn put<O: TextOut>(&self, _form: RowForm, out: &mut O) -> Result<(), O::Error> {
+        put_number(out, b"{\"id\":", self.media.0)?;
+        put_number(out, b",\"length\":", self.length)?;
+        put_digest(out, b",\"md5\":\"", self.md5.as_slice())?;
+        out.put(b"\"}")
+    }
+}
+
+/// Writes a piece and the digits of a digest.
+fn put_digest<O: TextOut>(out: &mut O, piece: &[u8], md5: &[u8]) -> Result<(), O::Error>
+    requires { length md5.now ≡ 16 }
+    ensures { OnOk result (Takes O.after out.old out.new
+        (λ rest. piece.now ++ (escape (encode_lower md5.now) ++ rest))) }
+{
+    let mut digits = [0; 32];
+    out.put(piece)?;
+    match encode_to_slice(md5, &mut digits) {
+        Ok(()) => out.put(&digits),
+        Err(_) => unreachable!(),
     }
 }
 

@@ -4,7 +4,9 @@ ghost use Rattle.std.specs.Prelude.{◌≡◌};
 
 use crate::entry::{Entry, Keyed};
 use crate::fault::RowFault;
+use crate::out::TextOut;
 use crate::part;
+use crate::writing::put_number;
 use serde_json::Value;
 use sg_base::{DisplayId, GroupId};
 use std::alloc::{AllocError, Global};
@@ -26,6 +28,10 @@ impl Entry for GroupId {
     fn read(_alloc: Global, value: &Value) -> Result<GroupId, RowFault> {
         let id = part::whole_id(value)?;
         Ok(GroupId(id))
+    }
+
+    fn put<O: TextOut>(&self, out: &mut O) -> Result<(), O::Error> {
+        put_number(out, b"", self.0)
     }
 }
 
@@ -54,6 +60,10 @@ impl Entry for DisplayId {
     fn read(_alloc: Global, value: &Value) -> Result<DisplayId, RowFault> {
         let id = part::whole_id(value)?;
         Ok(DisplayId(id))
+    }
+
+    fn put<O: TextOut>(&self, out: &mut O) -> Result<(), O::Error> {
+        put_number(out, b"", self.0)
     }
 }
 

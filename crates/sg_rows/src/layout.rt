@@ -5,8 +5,10 @@ ghost use Rattle.std.specs.Prelude.{◌≡◌};
 use crate::entry::{Entry, read_list, write_list};
 use crate::fault::RowFault;
 use crate::form::RowForm;
+use crate::out::TextOut;
 use crate::part;
 use crate::row::ManifestRow;
+use crate::writing::{put_list, put_number};
 use serde_json::{Value, json};
 use sg_base::{Item, Layout, LayoutId, MediaId, Region, Rows};
 use std::alloc::{AllocError, Global};
@@ -36,6 +38,13 @@ impl Entry for Item {
             seconds,
         })
     }
+
+    #[tactic(auto, unfolding(json::specs::Print::escape_byte))]
+    fn put<O: TextOut>(&self, out: &mut O) -> Result<(), O::Error> {
+        put_number(out, b"{\"media\":", self.media.0)?;
+        put_number(out, b",\"seconds\":", self.seconds)?;
+        out.put(b"}")
+    }
 }
 
 #[tactic(auto, unfolding(crate::specs::Reading::region_at))]
@@ -63,6 +72,13 @@ impl Entry for Region {
             id,
             items: Rows::from_vec(items),
         })
+    }
+
+    #[tactic(auto, unfolding(json::specs::Print::escape_byte))]
+    fn put<O: TextOut>(&self, out: &mut O) -> Result<(), O::Error> {
+        put_number(out, b"{\"id\":", self.id)?;
+        put_list(out, b",\"items\":[", self.items.as_slice())?;
+        out.put(b"}")
     }
 }
 
@@ -97,5 +113,12 @@ impl ManifestRow for Layout {
 
     fn key(&self) -> u32 {
         self.id().0
+    }
+
+    #[tactic(auto, unfolding(json::specs::Print::escape_byte))]
+    fn put<O: TextOut>(&self, _form: RowForm, out: &mut O) -> Result<(), O::Error> {
+        put_number(out, b"{\"id\":", self.id().0)?;
+        put_list(out, b",\"regions\":[", self.regions())?;
+        out.put(b"}")
     }
 }

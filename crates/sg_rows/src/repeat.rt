@@ -1,9 +1,12 @@
 //! Repeats of events in JSON.
 
-ghost use Rattle.std.specs.Prelude.{◌≡◌, ◌==◌, ◌-◌, ◌/◌, ◌%◌, ◌^◌, ◌<◌, ◌≤◌, IfOk, IfSome};
-ghost use Rattle.serde_json.specs.View.{view};
+ghost use Rattle.std.specs.Prelude.{◌≡◌, ◌==◌, ◌-◌, ◌/◌, ◌%◌, ◌^◌, ◌<◌, ◌≤◌, ◌++◌, List, ℕ, false, map, IfOk, OnOk, IfSome};
+ghost use Rattle.json.specs.Print.{escape};
+ghost use Rattle.serde_json.specs.Data.{Items};
+ghost use Rattle.serde_json.specs.View.{view, items_of};
 ghost use Rattle.sg_base.specs.Repeat.{IsRepeat};
 ghost use Rattle.sg_rows.specs.Text.{list_of, whole, weekdays, unit_text, until_json, repeat_json};
+ghost use Rattle.sg_rows.specs.Written.{Takes, text_before, items_before, with_chosen};
 ghost use Rattle.sg_rows.specs.Faults.{Gives};
 ghost use Rattle.sg_rows.specs.Parts.{number_at, nullable_at};
 ghost use Rattle.sg_rows.specs.Rows.{IsRepeatRow};
@@ -12,7 +15,9 @@ ghost use Rattle.sg_rows.specs.Forms.{is_later_repeat};
 
 use crate::entry::{Entry, write_list};
 use crate::fault::RowFault;
+use crate::out::TextOut;
 use crate::part;
+use crate::writing::{put_item, put_number};
 use serde_json::{Value, json};
 use sg_base::{Repeat, Unit};
 use std::alloc::{AllocError, Global};
@@ -100,6 +105,10 @@ impl Entry for u32 {
 
     fn read(_alloc: Global, value: &Value) -> Result<u32, RowFault> {
         part::whole(value)
+    }
+
+    fn put<O: TextOut>(&self, out: &mut O) -> Result<(), O::Error> {
+        put_number(out, b"", *self)
     }
 }
 
@@ -262,4 +271,71 @@ pub fn write_repeat(alloc: Global, repeat: &Option<Repeat>) -> Result<Value, All
             json!(in alloc; {"days": days, "every": repeat.every(), "unit": unit, "until": until})
         }
     }
+}
+
+/// Writes a weekday where bits have it, behind a comma if another was written. The answer is whether one was by now.
+fn put_weekday<O: TextOut>(
+    out: &mut O,
+    days: u8,
+    weekday: u32,
+    later: bool,
+) -> Result<bool, O::Error>
+    requires some { 1 ≤ weekday }
+    requires few { weekday ≤ 7 }
+    ensures { IfOk result (λ more. (ds : Items) (rest : List ℕ) →
+        O.after out.new (items_before more ds rest)
+        ≡ O.after out.old (items_before later (with_chosen days weekday ds) rest)) }
+{
+    if is_chosen(days, weekday) {
+        put_item(out, later, &weekday)?;
+        Ok(true)
+    } else {
+        Ok(later)
+    }
+}
+
+/// Writes a piece, which opens a list, and the weekdays of bits.
+fn put_days<O: TextOut>(out: &mut O, piece: &[u8], days: u8) -> Result<(), O::Error>
+    ensures { OnOk result (Takes O.after out.old out.new
+        (λ rest. piece.now ++ items_before false (items_of (map whole (weekdays days))) rest)) }
+{
+    out.put(piece)?;
+    let mut later = false;
+    for weekday in 1..8u32 {
+        later = put_weekday(out, days, weekday, later)?;
+    }
+    out.put(b"]")
+}
+
+fn put_until<O: TextOut>(out: &mut O, until: Option<u32>) -> Result<(), O::Error>
+    ensures { OnOk result (Takes O.after out.old out.new (text_before (until_json until))) }
+{
+    match until {
+        None => out.put(b"null"),
+        Some(day) => put_number(out, b"", day),
+    }
+}
+
+#[tactic(auto, using(crate::proofs::WrittenLemmas::unit_plain))]
+fn put_unit<O: TextOut>(out: &mut O, unit: Unit) -> Result<(), O::Error>
+    ensures { OnOk result (Takes O.after out.old out.new (λ rest. escape (unit_text unit) ++ rest)) }
+{
+    out.put(unit_name(unit).as_bytes())
+}
+
+/// Writes how an event repeats, or null.
+#[tactic(auto, unfolding(json::specs::Print::escape_byte))]
+pub(crate) fn put_repeat<O: TextOut>(out: &mut O, repeat: &Option<Repeat>) -> Result<(), O::Error>
+    ensures { OnOk result (Takes O.after out.old out.new (text_before (repeat_json repeat.now))) }
+{
+    let Some(repeat) = repeat else {
+        return out.put(b"null");
+    };
+    put_days(out, b"{\"days\":[", repeat.days())?;
+    put_number(out, b",\"every\":", repeat.every())?;
+    out.put(b",\"unit\":\"")?;
+    put_unit(out, repeat.unit())?;
+    out.put(b"\",\"until\":")?;
+    put_until(out, repeat.until())?;
+    out.put(b"}")
 }

@@ -1,15 +1,16 @@
 //! The rows of a manifest's lists.
 
-ghost use Rattle.std.specs.Prelude.{◌≡◌, ℕ, IfOk, Result};
+ghost use Rattle.std.specs.Prelude.{◌≡◌, ℕ, IfOk, OnOk, Result};
 ghost use Rattle.serde_json.specs.Data.{Data};
 ghost use Rattle.serde_json.specs.View.{view};
 ghost use Rattle.sg_rows.specs.Faults.{Gives};
-ghost use Rattle.sg_rows.specs.Text.{list_of};
+ghost use Rattle.sg_rows.specs.Written.{Takes, text_before};
 ghost use Rattle.sg_rows.specs.declared.fault.RowFault.{RowFault};
 ghost use Rattle.sg_rows.specs.declared.form.RowForm.{RowForm};
 
 use crate::fault::RowFault;
 use crate::form::RowForm;
+use crate::out::TextOut;
 use serde_json::Value;
 use std::alloc::{AllocError, Global};
 
@@ -34,21 +35,10 @@ pub trait ManifestRow: Sized + Drop {
         ensures gives { Gives (λ x. x) result (at form (view value.now)) }
         ensures sound { IfOk result (valid form) };
 
+    /// Writes the row's text in a form.
+    fn put<O: TextOut>(&self, form: RowForm, out: &mut O) -> Result<(), O::Error>
+        ensures { OnOk result (Takes O.after out.old out.new (text_before (json form self.now))) };
+
     fn key(&self) -> u32
         ensures { result ≡ key self.now };
-}
-
-/// Writes each row of a list, in one pass.
-pub fn write_rows<T: ManifestRow>(
-    alloc: Global,
-    form: RowForm,
-    rows: &[T],
-) -> Result<Value, AllocError>
-    ensures { IfOk result (λ v. view v ≡ list_of (T.json form) rows.now) }
-{
-    let mut values = Vec::new(alloc);
-    for row in rows {
-        values.push(row.write(alloc, form)?)?;
-    }
-    Ok(Value::Array(values))
 }

@@ -1,4 +1,4 @@
-use Rattle.std.proofs.Common.{◌≡◌, refl, rules}
+use Rattle.std.proofs.Common.{refl, rules}
 use Rattle.sg_rows.proofs.DaypartLemmas.{Made, row_made, valid_made}
 use Rattle.sg_rows.proofs.daypart.made.Goals as goal
 

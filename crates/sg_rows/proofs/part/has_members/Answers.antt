@@ -1,4 +1,4 @@
-use Rattle.std.proofs.Common.{◌≡◌, refl}
+use Rattle.std.proofs.Common.{refl}
 use Rattle.sg_rows.proofs.PartLemmas.{counted}
 use Rattle.sg_rows.proofs.part.has_members.Goals as goal
 
