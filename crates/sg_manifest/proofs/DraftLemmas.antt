@@ -1,5 +1,5 @@
 -- The rows that JSON says are each valid by itself, few enough, and of different ids.
-use Rattle.std.proofs.Common.{◌≡◌, ℕ, ◌+◌, ◌≤◌, ◌==◌, nat_le, true, false, not, List, [], ◌∷◌, ◌++◌, length, Result, Ok, Err, refl, subst, arith, IsTrue}
+use Rattle.std.proofs.Common.{◌≡◌, ℕ, ◌+◌, ◌≤◌, ◌==◌, nat_le, not, List, [], ◌∷◌, ◌++◌, length, Result, Ok, Err, subst, arith, IsTrue}
 use Rattle.std.specs.Prelude.{codes}
 use Rattle.std.specs.List.{AllByRecursion, IsDistinct, list_any}
 use borrow.Author.Tests.{leb-true}

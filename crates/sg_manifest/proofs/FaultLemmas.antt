@@ -1,10 +1,9 @@
 -- A row's fault by its place, and what is read behind another reading.
-use Rattle.std.proofs.Common.{◌≡◌, ℕ, Bool, true, false, Result, Ok, Err, refl}
+use Rattle.std.proofs.Common.{◌≡◌, ℕ, true, false, Result, Err, refl}
 use Rattle.sg_rows.specs.declared.fault.RowFault.{RowFault}
 use Rattle.sg_rows.specs.declared.fault.RowFault.TheVariants as row
 use Rattle.sg_rows.specs.Faults.{◌>>=◌, has_cause as row_has_cause}
 use Rattle.sg_manifest.specs.declared.fault.ManifestFault.{ManifestFault}
-use Rattle.sg_manifest.specs.declared.fault.ManifestFault.TheVariants.{Memory}
 use Rattle.sg_manifest.specs.Faults.{fault_in, in_entry, has_cause, nests_memory}
 
 pub record Tells {A : Type 0} (e : ManifestFault) (r : Result A ManifestFault) : Type 0 where

@@ -8,3 +8,5 @@ pub mod TextLemmas
 pub mod WholeAgain
 pub mod DraftLemmas
 pub mod ReadLemmas
+pub mod LengthLemmas
+pub mod AgreementLemmas

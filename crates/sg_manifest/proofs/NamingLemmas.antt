@@ -1,5 +1,5 @@
 -- Where an id is looked for among others in another order, the answer is the same.
-use Rattle.std.proofs.Common.{◌≡◌, ℕ, ◌==◌, Bool, List, [], ◌∷◌, Option, refl, ap, ap₂, subst, true, false, ◌∙◌}
+use Rattle.std.proofs.Common.{◌≡◌, ℕ, ◌==◌, Bool, List, [], ◌∷◌, Option, refl, ap, ap₂, subst, true, false}
 use Rattle.std.proofs.lemmas.List.Sorted.{list_any-IsPermutation}
 use Rattle.std.specs.Prelude.{if◌then◌else◌, None, Some, IfSome}
 use Rattle.std.specs.List.{list_any}

@@ -1,13 +1,12 @@
 -- Rows that were read are a valid snapshot once they are in order and nothing that they name is missing; and the text of
 -- a valid snapshot has no fault.
-use Rattle.std.proofs.Common.{◌≡◌, ℕ, zero, suc, ◌+◌, ◌<◌, ◌≤◌, ◌==◌, nat_le, Bool, true, false, List, [], ◌∷◌, length, map, get_or, Result, Ok, Err, refl, sym, ap, subst, ◌∙◌, arith, le-leb, eqb-true}
+use Rattle.std.proofs.Common.{◌≡◌, ℕ, zero, suc, ◌<◌, ◌≤◌, ◌==◌, nat_le, Bool, true, false, List, [], ◌∷◌, length, map, get_or, Ok, Err, refl, ap, subst, ◌∙◌, arith, le-leb, eqb-true}
 use Rattle.std.proofs.lemmas.Bool.Decides.{nat_tests}
-use Rattle.std.proofs.lemmas.Grind.{get_or_default_zero}
 use Rattle.std.proofs.lemmas.List.Sorted.{Contains-permutation, IsPermutation-map, length_permutation}
 use Rattle.std.proofs.lemmas.Slice.Eq.{bytes_eq-Decides}
 use Rattle.std.specs.Prelude.{Option, Some, None, if◌then◌else◌}
 use Rattle.std.specs.Str.{bytes_eq}
-use Rattle.std.specs.List.{AllByRecursion, IsDistinct, Contains, list_any}
+use Rattle.std.specs.List.{AllByRecursion, Contains, list_any}
 use Rattle.std.specs.List.Sorted.{IsPermutation}
 use Rattle.sg_base.specs.declared.limits.TheConstants.{MANIFEST_FILES, MANIFEST_LAYOUTS, MANIFEST_CAMPAIGNS, MANIFEST_DAYPARTS, MANIFEST_EVENTS, MANIFEST_TEXT}
 use Rattle.sg_base.specs.declared.layout.Region.{Region}
@@ -16,10 +15,9 @@ use Rattle.sg_base.specs.declared.event.When.{When}
 use Rattle.sg_base.specs.declared.event.When.TheVariants.{Always, Custom, Named}
 use Rattle.sg_base.specs.declared.event.Target.{Target}
 use Rattle.sg_base.specs.declared.event.Target.TheVariants as target
-use Rattle.sg_base.specs.Faults.{first_of, first_in}
+use Rattle.sg_base.specs.Faults.{first_in}
 use Rattle.sg_base.specs.Layout.{LayoutRow}
 use Rattle.sg_base.proofs.FaultLemmas.{first_none}
-use Rattle.sg_base.proofs.DoubleLemmas.{same}
 use Rattle.sg_base.specs.declared.kind.Kind.{Kind}
 use Rattle.sg_base.specs.declared.kind.Kind.TheVariants.{Media, Layout, Campaign, Daypart}
 use Rattle.sg_rows.specs.Rows.{IsCampaignRow, IsDaypartRow, IsEventRow, IsLayoutRow, IsListed}
@@ -28,9 +26,9 @@ use Rattle.sg_rows.proofs.OrderLemmas.{all_sorted, sorted_rises, sorted_moves}
 use Rattle.sg_manifest.specs.declared.fault.ManifestFault.{ManifestFault}
 use Rattle.sg_manifest.specs.declared.fault.ManifestFault.TheVariants.{Dangling, Limit, NotCanonical}
 use Rattle.sg_base.specs.declared.kind.LimitName.TheVariants.{Text}
-use Rattle.sg_manifest.specs.Snapshot.{SnapshotRow, IsSnapshot, form_of, HasValidRows, IsInOrder, HasAllNamed, IsWithinLimits, HasMedia, HasLayouts, IsTargetIn, IsWhenIn, layout_ids, campaign_ids, daypart_ids, event_ids, file_ids}
+use Rattle.sg_manifest.specs.Snapshot.{SnapshotRow, IsSnapshot, form_of, HasAllNamed, HasMedia, HasLayouts, IsTargetIn, IsWhenIn, layout_ids, campaign_ids, daypart_ids, file_ids}
 use Rattle.sg_manifest.specs.Text.{text, IsManifest}
-use Rattle.sg_manifest.specs.Fitting.{IsDraft, IsApart}
+use Rattle.sg_manifest.specs.Fitting.{IsDraft}
 use Rattle.sg_manifest.specs.Reading.{missing, missing_media, missing_file, missing_layout, missing_target, missing_daypart, missing_in_target, missing_in_when, none_of, dangling, ordered, common, canonical, json_at, draft_at, rows_of, manifest_at}
 use Rattle.sg_manifest.proofs.OrderLemmas.{increasing_from_rises}
 use Rattle.sg_rows.specs.Faults.{needs}

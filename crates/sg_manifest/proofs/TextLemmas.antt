@@ -1,10 +1,10 @@
 -- How many first bytes two texts have in common.
-use Rattle.std.proofs.Common.{◌≡◌, ℕ, suc, ◌+◌, ◌<◌, ◌≤◌, ◌==◌, true, false, List, [], ◌∷◌, length, drop, drop-cons, get_or, refl, sym, ◌∙◌, ap, arith, add-one}
+use Rattle.std.proofs.Common.{◌≡◌, ℕ, suc, ◌+◌, ◌<◌, ◌≤◌, ◌==◌, true, false, List, [], ◌∷◌, length, drop, drop-cons, get_or, refl, arith, add-one}
 use Rattle.std.proofs.lemmas.Bool.Decides.{nat_tests}
 use Rattle.std.proofs.lemmas.List.{drop_all}
 use Rattle.sg_manifest.specs.Reading.{common}
 
-common_none : (xs : List ℕ) → common xs [] ≡ 0
+pub common_none : (xs : List ℕ) → common xs [] ≡ 0
 common_none [] = refl
 common_none (x ∷ xs) = refl
 

@@ -1,10 +1,9 @@
 -- The JSON of a valid snapshot is plain and reads as the snapshot, so its text is of no other.
-use Rattle.std.proofs.Common.{◌≡◌, ◌≢◌, ℕ, ◌^◌, ◌<◌, ◌≤◌, ◌==◌, nat_le, Bool, true, false, IsTrue, lt-ltb, List, length, Result, Ok, refl, sym, ap, ◌∙◌, map, arith, le-leb}
-use Rattle.std.specs.Prelude.{Some, None, Option, if◌then◌else◌}
+use Rattle.std.proofs.Common.{◌≡◌, ◌≢◌, ℕ, ◌^◌, ◌<◌, ◌==◌, Bool, true, false, IsTrue, lt-ltb, List, length, Result, Ok, refl, sym, ap, ◌∙◌, map, arith, le-leb}
+use Rattle.std.specs.Prelude.{Some, if◌then◌else◌}
 use Rattle.std.proofs.lemmas.Bool.Decides.{nat_tests}
 use Rattle.sg_rows.specs.declared.form.RowForm.TheVariants.{Version1, Version2, Edit}
-use Rattle.std.specs.Str.{is_utf8, bytes_eq}
-use Rattle.std.specs.List.{AllByRecursion, IsDistinct}
+use Rattle.std.specs.List.{IsDistinct}
 use Rattle.std.specs.List.Sorted.{IsStrictlyIncreasing}
 use Rattle.sg_base.specs.declared.limits.TheConstants.{MANIFEST_FILES, MANIFEST_LAYOUTS, MANIFEST_CAMPAIGNS, MANIFEST_DAYPARTS, MANIFEST_EVENTS}
 use Rattle.serde_json.specs.Data.{Data}
@@ -14,15 +13,14 @@ use Rattle.sg_base.proofs.DoubleLemmas.{same}
 use Rattle.sg_base.specs.declared.kind.Kind.TheVariants.{Media, Layout, Campaign, Daypart, Event}
 use Rattle.sg_rows.specs.Rows.{IsCampaignRow, IsDaypartRow, IsEventRow, IsLayoutRow, IsListed}
 use Rattle.sg_rows.specs.Text.{layout_json, file_json, campaign_json, daypart_json, event_json}
-use Rattle.sg_rows.specs.Order.{sorted_by}
 use Rattle.sg_rows.specs.Reading.{layout_at, file_at, campaign_at, daypart_at, event_at}
 use Rattle.sg_rows.proofs.CompactSound.{Sound, Sound-unsigned, Sound-list, Sound-object, read-Sound, is_utf8-Sound, has_float-Sound}
 use Rattle.sg_rows.proofs.SoundRows.{id_sound, campaign_sound, daypart_sound, event_sound, file_sound, layout_sound, zone_sound}
-use Rattle.sg_rows.proofs.OrderLemmas.{Rises, sorted_again}
+use Rattle.sg_rows.proofs.OrderLemmas.{sorted_again}
 use Rattle.sg_rows.proofs.AgainRows.{id_again, layout_again, file_again}
 use Rattle.sg_rows.proofs.AgainSchedules.{campaign_again, daypart_again, event_again, zone_again}
 use Rattle.sg_manifest.specs.declared.fault.ManifestFault.{ManifestFault}
-use Rattle.sg_manifest.specs.Snapshot.{SnapshotRow, IsSnapshot, is_version, form_of, layout_ids, campaign_ids, daypart_ids, event_ids, file_ids}
+use Rattle.sg_manifest.specs.Snapshot.{SnapshotRow, IsSnapshot, is_version, form_of}
 use Rattle.sg_manifest.specs.Text.{snapshot_json, text}
 use Rattle.sg_manifest.specs.Reading.{json_at, version_at, members_at, draft_at, ordered}
 use Rattle.sg_manifest.proofs.ListLemmas.{counted_items, list_again}

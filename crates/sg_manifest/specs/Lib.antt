@@ -4,3 +4,4 @@ pub mod Sample
 pub mod Faults
 pub mod Reading
 pub mod Fitting
+pub mod Agreement

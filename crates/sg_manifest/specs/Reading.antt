@@ -1,5 +1,5 @@
 -- The snapshot that bytes say, or the first fault of the bytes. The checks stand in their order, in `manifest_at`.
-use Rattle.std.specs.Prelude.{ℕ, ◌+◌, ◌==◌, ◌++◌, nat_lt, nat_le, not, List, [], ◌∷◌, codes, length, if◌then◌else◌, Option, Some, None, Result, Ok, Err}
+use Rattle.std.specs.Prelude.{ℕ, ◌+◌, ◌==◌, ◌++◌, nat_le, not, List, [], ◌∷◌, codes, length, if◌then◌else◌, Option, Some, None, Result, Ok, Err}
 use Rattle.std.specs.List.{list_any}
 use Rattle.std.specs.Str.{is_utf8, bytes_eq}
 use Rattle.serde_json.specs.Data.{Data, Items, no_items, item}
@@ -13,7 +13,6 @@ use Rattle.sg_base.specs.declared.event.When.{When}
 use Rattle.sg_base.specs.declared.event.When.TheVariants.{Always, Custom, Named}
 use Rattle.sg_base.specs.declared.event.Target.{Target}
 use Rattle.sg_base.specs.declared.event.Target.TheVariants as target
-use Rattle.sg_base.specs.declared.zone.ZoneRule.{ZoneRule}
 use Rattle.sg_base.specs.Faults.{first_of, first_in}
 use Rattle.sg_base.specs.Layout.{LayoutRow}
 use Rattle.sg_base.specs.Event.{EventValue}

@@ -14,7 +14,7 @@ ghost use Rattle.sg_manifest.specs.declared.fault.ManifestFault.TheVariants.{Lim
 use crate::fault::ManifestFault;
 use crate::naming::dangling;
 use crate::snapshot::{Draft, Snapshot};
-use crate::text::{first_difference, write};
+use crate::text::first_difference;
 use serde_json::Value;
 use sg_base::LimitName;
 use sg_base::limits::MANIFEST_TEXT;
@@ -47,12 +47,11 @@ fn rows(alloc: Global, bytes: &[u8]) -> Result<Draft, ManifestFault>
 
 /// The snapshot, where the bytes are its text.
 #[tactic(auto, using(crate::proofs::ReadLemmas::canonical_same, crate::proofs::ReadLemmas::canonical_other))]
-fn compared(alloc: Global, snapshot: Snapshot, bytes: &[u8]) -> Result<Snapshot, ManifestFault>
+fn compared(snapshot: Snapshot, bytes: &[u8]) -> Result<Snapshot, ManifestFault>
     ensures gives { Gives (λ s. s) result (canonical bytes.now snapshot) }
     ensures same { IfOk result (λ s. IsSnapshot s × (bytes.now ≡ text s)) }
 {
-    let text = write(alloc, &snapshot)?;
-    match first_difference(bytes, text.as_slice()) {
+    match first_difference(bytes, &snapshot) {
         None => Ok(snapshot),
         Some(place) => Err(ManifestFault::NotCanonical(place as u64)),
     }
@@ -95,11 +94,11 @@ fn checked(alloc: Global, bytes: &[u8]) -> Result<Snapshot, ManifestFault>
     let draft = rows(alloc, bytes)?;
     nothing_missing(alloc, &draft)?;
     short(bytes)?;
-    compared(alloc, Snapshot::new(draft.ordered()), bytes)
+    compared(Snapshot::new(draft.ordered()), bytes)
 }
 
 /// The snapshot whose canonical text the bytes are. Other bytes give their first fault, in the order of
-/// [`ManifestFault`]. The bytes are parsed once, and compared once with the text written again.
+/// [`ManifestFault`]. The bytes are parsed once, and compared once with the text while that is written again.
 pub fn read(alloc: Global, bytes: &[u8]) -> Result<Snapshot, ManifestFault>
     // Which snapshot, or which fault with all its fields. A row's fault inside is never want of memory.
     ensures exact { Gives (λ s. s) result (manifest_at bytes.now) }

@@ -4,7 +4,7 @@ use crate::texts::{BUSY, DATED, PLAIN, edited};
 use sg_base::{
     CampaignId, DaypartId, Kind, LayoutId, LimitName, Target, Unit, When, Window, ZoneRule,
 };
-use sg_manifest::{ManifestFault, read, write};
+use sg_manifest::{ManifestFault, read, text_len, write};
 use std::alloc::{AllocError, Global};
 use std::test::Fail;
 
@@ -205,9 +205,21 @@ fn most_layouts(rt: HostRuntime) -> Result<(), Fail> {
 #[test]
 fn text_again(rt: HostRuntime) -> Result<(), Fail> {
     let second = edited(rt.alloc(), PLAIN, "\"version\":1", "\"version\":2")?;
-    for text in [PLAIN, BUSY, DATED, second.as_str()] {
+    let west = edited(rt.alloc(), PLAIN, "{\"offset\":0}", "{\"offset\":-840}")?;
+    for text in [PLAIN, BUSY, DATED, second.as_str(), west.as_str()] {
         let snapshot = read(rt.alloc(), text.as_bytes())?;
         assert_eq!(rt; write(rt.alloc(), &snapshot)?.as_slice(), text.as_bytes());
+    }
+    Ok(())
+}
+
+#[test]
+fn texts_are_as_long_as_is_counted(rt: HostRuntime) -> Result<(), Fail> {
+    let second = edited(rt.alloc(), PLAIN, "\"version\":1", "\"version\":2")?;
+    let west = edited(rt.alloc(), PLAIN, "{\"offset\":0}", "{\"offset\":-840}")?;
+    for text in [PLAIN, BUSY, DATED, second.as_str(), west.as_str()] {
+        let snapshot = read(rt.alloc(), text.as_bytes())?;
+        assert_eq!(rt; text_len(&snapshot), text.len() as u64);
     }
     Ok(())
 }

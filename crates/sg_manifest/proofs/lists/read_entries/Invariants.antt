@@ -1,4 +1,4 @@
-use Rattle.std.proofs.Common.{◌≡◌, ◌≤◌, drop, length, []}
+use Rattle.std.proofs.Common.{◌≡◌, drop, []}
 use Rattle.std.specs.List.{AllByRecursion}
 use Rattle.serde_json.specs.View.{items_view}
 use Rattle.sg_rows.specs.Parts.{with_front}

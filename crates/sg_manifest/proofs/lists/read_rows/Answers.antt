@@ -1,4 +1,4 @@
-use Rattle.std.proofs.Common.{◌≡◌, refl, arith}
+use Rattle.std.proofs.Common.{refl}
 use Rattle.sg_manifest.proofs.ListLemmas.{rows_limit, rows_are}
 use Rattle.sg_manifest.proofs.lists.read_rows.Goals as goal
 

@@ -1,6 +1,6 @@
 use Rattle.std.proofs.Common.{◌≡◌, drop}
 use Rattle.sg_base.specs.Faults.{first_in}
-use Rattle.sg_base.specs.declared.kind.Kind.TheVariants.{Media, Layout}
+use Rattle.sg_base.specs.declared.kind.Kind.TheVariants.{Layout}
 use Rattle.sg_manifest.specs.Reading.{missing}
 use Rattle.sg_manifest.proofs.naming.in_campaign.Given as goal
 
