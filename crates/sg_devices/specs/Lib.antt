@@ -1,0 +1,4 @@
+pub mod Exchanges
+pub mod Folder
+pub mod Memory
+pub mod Panels
