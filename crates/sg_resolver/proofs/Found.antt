@@ -111,10 +111,3 @@ pub told_at : {X : Type 0} (number told : X → ℕ) (F : Option X → ℕ) → 
 told_at number told F is xs ids id k d are up place =
     let here : IsIndexOf (map number xs) id (Some k) = rw are at place in
     told_here number told F is xs id k d (rises number xs up) (omega (arith, here.0, length-map xs number)) here.1
-
--- a campaign at a place has at most 64 layouts
-pub few_at : (cs : List CampaignRow) (ids : List ℕ) (id k : ℕ) (x : CampaignRow) → AllByRecursion IsCampaignRow cs → ids ≡ map (λ c. c.id.0) cs → IsIndexOf ids id (Some k) → x ≡ get_or cs k x → length x.layouts ≤ 64
-few_at cs ids id k x rows are place is =
-    let inside : k < length cs = place_inside (λ (c : CampaignRow). c.id.0) cs ids id k are place in
-    let row : IsCampaignRow x = subst IsCampaignRow (sym is) (All-from_recursion IsCampaignRow cs rows k x inside) in
-    row.few

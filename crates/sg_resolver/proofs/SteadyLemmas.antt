@@ -1,5 +1,5 @@
 -- What is shown at the seconds of an hour throughout which the lists stay the same.
-use Rattle.std.proofs.Common.{◌≡◌, ℕ, zero, suc, ◌+◌, ◌*◌, ◌%◌, ◌<◌, ◌≤◌, List, length, refl, ap, sym, subst, ◌∙◌, arith, ℤ, pos, ◌+ℤ◌}
+use Rattle.std.proofs.Common.{◌≡◌, ℕ, zero, suc, ◌+◌, ◌*◌, ◌%◌, ◌<◌, ◌≤◌, List, length, refl, ap, sym, subst, ◌∙◌, arith, None, ℤ, pos, ◌+ℤ◌}
 use Rattle.std.specs.List.{AllByRecursion}
 use Rattle.std.specs.Prelude.{unsigned_abs}
 use Rattle.std.specs.Int.{int_rem_euclid}
@@ -12,10 +12,12 @@ use Rattle.sg_voice.specs.Hour.{shown_from as slots_from, seconds_shown as secon
 use Rattle.sg_voice.proofs.SecondLemmas.{shown_all}
 use Rattle.sg_voice.proofs.TileLemmas.{slots_tile}
 use Rattle.sg_manifest.specs.Snapshot.{SnapshotRow, IsSnapshot}
-use Rattle.sg_resolver.specs.Lists.{normal_plays, interrupts}
-use Rattle.sg_resolver.specs.Shown.{slot_at, shown, place_of}
+use Rattle.sg_resolver.specs.Lists.{picture_layer, normal_plays, interrupts}
+use Rattle.sg_layer.specs.Shown.{place_of}
+use Rattle.sg_layer.proofs.SoundLemmas.{plays_sound, interrupts_sound}
+use Rattle.sg_resolver.specs.Shown.{slot_at, shown}
 use Rattle.sg_resolver.specs.Steady.{BeginsHour, IsSteady, shown_from, seconds_shown}
-use Rattle.sg_resolver.proofs.ValidLemmas.{normal_known, normal_some, plays_valid, interrupts_known, interrupts_valid}
+use Rattle.sg_resolver.proofs.ValidLemmas.{normal_some, picture_sound}
 
 -- the place of the p-th second of an hour is p
 place_in : (begin : ℤ) (p : ℕ) → BeginsHour begin → p < 3600 → place_of (begin +ℤ pos p) ≡ p
@@ -41,17 +43,17 @@ same_from s begin ns is e (suc m) p h few =
 
 -- the lists of a valid snapshot make slots without a gap
 some_of : (s : SnapshotRow) (begin : ℤ) (ns : List Play) (is : List Interrupt) → IsSnapshot s → IsSteady s begin ns is → 0 < length ns
-some_of s begin ns is valid h = subst (λ (ps : List Play). 0 < length ps) (h.normal 0 (omega arith)) (normal_some s (begin +ℤ pos 0) valid)
+some_of s begin ns is valid h = subst (λ (ps : List Play). 0 < length ps) (h.normal 0 (omega arith)) (normal_some s (begin +ℤ pos 0))
 
 sound_of : (s : SnapshotRow) (begin : ℤ) (ns : List Play) (is : List Interrupt) → IsSnapshot s → IsSteady s begin ns is → AllByRecursion IsPlay ns
 sound_of s begin ns is valid h =
     let t : ℤ = begin +ℤ pos 0 in
-    subst (λ (ps : List Play). AllByRecursion IsPlay ps) (h.normal 0 (omega arith)) (plays_valid s (normal_plays s t) (normal_known s t valid))
+    subst (λ (ps : List Play). AllByRecursion IsPlay ps) (h.normal 0 (omega arith)) (plays_sound (picture_layer s None) t (picture_sound s None valid))
 
 shared_of : (s : SnapshotRow) (begin : ℤ) (ns : List Play) (is : List Interrupt) → IsSnapshot s → IsSteady s begin ns is → AllByRecursion IsInterrupt is
 shared_of s begin ns is valid h =
     let t : ℤ = begin +ℤ pos 0 in
-    subst (λ (xs : List Interrupt). AllByRecursion IsInterrupt xs) (h.shared 0 (omega arith)) (interrupts_valid s (interrupts s t) (interrupts_known s t valid))
+    subst (λ (xs : List Interrupt). AllByRecursion IsInterrupt xs) (h.shared 0 (omega arith)) (interrupts_sound (picture_layer s None) t (picture_sound s None valid))
 
 pub hour_shown : (s : SnapshotRow) (begin : ℤ) (ns : List Play) (is : List Interrupt) (e : ℕ) → IsSnapshot s → IsSteady s begin ns is → seconds_shown s begin e ≡ event_seconds e (slots_of ns is)
 unfolding seconds_shown seconds_of_slots

@@ -3,6 +3,4 @@ pub mod Lists
 pub mod Shown
 pub mod Steady
 pub mod Ready
-pub mod Kind
 pub mod Catalog
-pub mod Front

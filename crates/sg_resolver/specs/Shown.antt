@@ -1,14 +1,13 @@
 -- What a snapshot shows: the slot at a local second, and the picture of its layout.
-use Rattle.std.specs.Prelude.{◌≡◌, ℕ, ◌+◌, ◌-◌, ◌<◌, ◌≤◌, List, map, Result, Ok, Err, ℤ, pos, ◌+ℤ◌, ◌-ℤ◌, unsigned_abs}
-use Rattle.std.specs.Int.{int_rem_euclid}
+use Rattle.std.specs.Prelude.{◌≡◌, ℕ, ◌+◌, ◌-◌, ◌<◌, ◌≤◌, List, map, Result, Ok, Err, ℤ, pos, ◌+ℤ◌, ◌-ℤ◌}
 use Rattle.sg_base.specs.declared.ids.MediaId.{MediaId}
 use Rattle.sg_base.specs.Layout.{medium_at}
-use Rattle.sg_base.specs.declared.limits.TheConstants.{HOUR}
 use Rattle.sg_calendar.specs.declared.zone.ZoneFault.{ZoneFault}
 use Rattle.sg_calendar.specs.Zone.{ZoneView, zone_of, local_at}
 use Rattle.sg_voice.specs.declared.play.Slot.{Slot}
 use Rattle.sg_voice.specs.Hour.{slots_of, covering, interrupt_plays}
 use Rattle.sg_voice.specs.Begin.{IsSlot}
+use Rattle.sg_layer.specs.Shown.{place_of}
 use Rattle.sg_manifest.specs.Snapshot.{SnapshotRow}
 use Rattle.sg_resolver.specs.declared.show.Show.{Show}
 use Rattle.sg_resolver.specs.Rows.{regions_of}
@@ -21,10 +20,6 @@ local_by (Err fault) m = pos m
 
 abbrev pub local_of : SnapshotRow → ℕ → ℤ
 local_of s m = local_by (zone_of s.zone) m
-
--- the second of its hour at which a local second stands, 0 to 3,599
-abbrev pub place_of : ℤ → ℕ
-place_of t = unsigned_abs (int_rem_euclid t (pos HOUR))
 
 -- the slot that covers a local second, in the hour's loop built from the lists at that second
 unfoldable pub slot_at : SnapshotRow → ℤ → Slot

@@ -1,10 +1,13 @@
 //! A snapshot's rows, found by their id.
 
-ghost use Rattle.std.specs.Prelude.{◌≡◌, ◌==◌, ◌≤◌, List, ℕ, length, map, find, IfOk, IfSome, option_copied};
+ghost use Rattle.std.specs.Prelude.{◌≡◌, ◌==◌, map, find, Contains, IfOk, option_copied};
 ghost use Rattle.sg_base.specs.Layout.{longest};
+ghost use Rattle.sg_manifest.specs.Snapshot.{layout_ids};
 ghost use Rattle.sg_resolver.specs.Rows.{regions_of};
+ghost use Rattle.sg_resolver.specs.Shown.{picture_of};
 
-use sg_base::limits::MAX_CAMPAIGN_LAYOUTS;
+use crate::picture::Picture;
+use crate::show::Show;
 use sg_base::{Campaign, Daypart, Layout, index_of};
 use sg_manifest::Snapshot;
 use std::alloc::{AllocError, Global};
@@ -13,7 +16,7 @@ use std::marker::Model;
 /// A snapshot, with the ids of its rows, by which these are found, and the seconds of its layouts. Both are gathered
 /// once. Callers see it as the snapshot.
 #[derive(Debug, Drop)]
-pub(crate) struct Catalog {
+pub struct Catalog {
     snapshot: Snapshot,
     layouts: Vec<u32>,
     seconds: Vec<u32>,
@@ -35,7 +38,7 @@ impl Model for Catalog {
 
 impl Catalog {
     /// A copy of a snapshot, ready for searches. Its only error is want of memory.
-    pub(crate) fn new(alloc: Global, s: &Snapshot) -> Result<Catalog, AllocError>
+    pub fn new(alloc: Global, s: &Snapshot) -> Result<Catalog, AllocError>
         ensures { IfOk result (λ c. c ≡ s.now) }
     {
         let layouts = layout_ids(alloc, s.layouts())?;
@@ -53,7 +56,7 @@ impl Catalog {
     }
 
     /// The snapshot itself.
-    pub(crate) fn snapshot(&self) -> &Snapshot
+    pub fn snapshot(&self) -> &Snapshot
         ensures { result.now ≡ self.now }
     {
         &self.snapshot
@@ -79,10 +82,20 @@ impl Catalog {
         }
     }
 
-    /// The campaign with this id. It has at most 64 layouts.
+    /// The picture at a show of a layout of the snapshot: the medium of each region. It takes no memory.
+    pub fn picture(&self, show: &Show) -> Picture
+        requires { Contains (layout_ids self.now) show.now.layout }
+        ensures { result ≡ picture_of self.now show.now }
+    {
+        match self.layout(show.layout) {
+            Some(layout) => Picture::of_layout(layout, show.offset),
+            None => Picture::new(),
+        }
+    }
+
+    /// The campaign with this id.
     pub(crate) fn campaign(&self, id: u32) -> Option<&Campaign>
-        ensures value { option_copied result ≡ find (λ c. c.id.0 == id) self.now.campaigns }
-        ensures few { IfSome result (λ c. length c.now.layouts ≤ MAX_CAMPAIGN_LAYOUTS) }
+        ensures { option_copied result ≡ find (λ c. c.id.0 == id) self.now.campaigns }
     {
         match index_of(self.campaigns.as_slice(), id) {
             Some(place) => Some(&self.snapshot.campaigns()[place]),

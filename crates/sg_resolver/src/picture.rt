@@ -1,9 +1,10 @@
 //! The picture of a layout.
 
-ghost use Rattle.std.specs.Prelude.{◌≡◌, ◌==◌, ◌<◌, [], ◌∷◌, ◌++◌, length, Some, slice_get};
+ghost use Rattle.std.specs.Prelude.{◌≡◌, ◌==◌, ◌<◌, ◌≤◌, [], ◌∷◌, ◌++◌, length, map, Some, slice_get};
+ghost use Rattle.sg_base.specs.Layout.{medium_at};
 
-use sg_base::MediaId;
 use sg_base::limits::MAX_REGIONS;
+use sg_base::{Layout, MediaId};
 use std::marker::Model;
 
 /// The medium of each region of a layout, in the layout's order: at most 16 entries, in fixed room.
@@ -36,8 +37,19 @@ impl Picture {
         }
     }
 
-    /// Adds an entry behind the others.
-    pub(crate) fn add(&mut self, region: u32, media: MediaId)
+    /// The picture of a layout at a second since it began.
+    pub(crate) fn of_layout(layout: &Layout, offset: u32) -> Picture
+        ensures { result ≡ map (λ r. (r.id, medium_at r offset)) layout.now.regions }
+    {
+        let mut picture = Picture::new();
+        for (i, region) in layout.regions().iter().enumerate() {
+            picture.add(region.id, layout.item_at(i, offset));
+        }
+        picture
+    }
+
+    // Adds an entry after the others.
+    fn add(&mut self, region: u32, media: MediaId)
         requires { length self.old < MAX_REGIONS }
         ensures { self.new ≡ self.old ++ (region, media) ∷ [] }
     {
@@ -47,7 +59,8 @@ impl Picture {
 
     /// How many entries there are.
     pub fn len(&self) -> usize
-        ensures { result ≡ length self.now }
+        ensures value { result ≡ length self.now }
+        ensures few { result ≤ MAX_REGIONS }
     {
         self.count
     }

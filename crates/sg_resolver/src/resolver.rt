@@ -1,137 +1,112 @@
 //! A snapshot, ready to be asked what it shows.
 
-ghost use Rattle.std.specs.Prelude.{◌≡◌, ◌==◌, ℕ, ◌+◌, ◌<◌, ◌≤◌, List, length, map, Contains, Ok, IfOk, IsOk, option_copied, []};
+ghost use Rattle.std.specs.Prelude.{◌≡◌, ◌+◌, ◌*◌, ◌≤◌, true, false, None, length, Contains, Ok, IfOk, IsOk};
 ghost use Rattle.sg_base.specs.Seconds.{IsAskable};
 
 use crate::catalog::Catalog;
-use crate::lists::{list_interrupts, list_normal};
-use crate::order::sorted;
 use crate::picture::Picture;
-use crate::show::Show;
-use sg_base::limits::{HOUR, MAX_CAMPAIGN_LAYOUTS};
-use sg_base::{Event, Layout, LocalSec, Moment, Steps};
+use crate::show::{Show, show_of};
+use sg_base::{LocalSec, Moment, Steps};
 use sg_calendar::Zone;
+use sg_layer::{Kind, Layer};
 use sg_manifest::Snapshot;
-use sg_voice::{Interrupt, Loop, Play, Slot, build_loop, slot_at};
 use std::alloc::{AllocError, Global};
 use std::marker::Model;
 use std::sync::ledger::Ledger;
 
-/// A snapshot with the room that its answers need, taken once.
+/// A snapshot with the room that its answers need, taken once, and with the hour that was built last.
 #[derive(Debug, Drop)]
 pub struct Resolver {
     catalog: Catalog,
     zone: Zone,
-    // the events by order and id
-    ordered: Vec<Event>,
-    // room for the active events, for their plays and interrupts, and for the loop of an hour
-    listed: Vec<Event>,
-    plays: Vec<Play>,
-    interrupts: Vec<Interrupt>,
-    hour: Loop,
+    layer: Layer,
 }
 
 impl Model for Resolver {
-    ghost use Rattle.std.specs.Prelude.{vec_capacity};
-    ghost use Rattle.sg_manifest.specs.Snapshot.{SnapshotRow};
-    ghost use Rattle.sg_resolver.specs.Ready.{IsReady};
+    ghost use Rattle.sg_resolver.specs.Ready.{Adopted, IsReady};
 
-    ghost Value = { SnapshotRow };
+    ghost Value = { Adopted };
 
-    ghost view = { λ r. r.catalog };
+    ghost view = { λ r. record { snapshot = r.catalog; kept = r.layer.kept } };
 
-    ghost invariant = { λ r. IsReady r.catalog r.zone r.ordered.items (vec_capacity r.listed) (vec_capacity r.plays) (vec_capacity r.interrupts) };
+    ghost invariant = { λ r. IsReady r.catalog r.zone r.layer };
 }
 
 impl Resolver {
     ghost use Rattle.sg_calendar.specs.Zone.{zone_of};
+    ghost use Rattle.sg_layer.specs.Shown.{entries_of};
+    ghost use Rattle.sg_layer.specs.Segment.{is_inside, IsKeptFrom};
     ghost use Rattle.sg_manifest.specs.Snapshot.{IsSnapshot, layout_ids};
+    ghost use Rattle.sg_resolver.specs.Lists.{picture_layer, picture_events};
     ghost use Rattle.sg_resolver.specs.Shown.{local_of, shown, IsShown, picture_of};
 
     /// Makes a snapshot ready. All the memory that later answers need is taken here.
     pub fn adopt(alloc: Global, s: &Snapshot) -> Result<Resolver, AllocError>
-        ensures { IfOk result (λ r. r ≡ s.now) }
+        ensures { IfOk result (λ r. r ≡ record { snapshot = s.now; kept = None }) }
     {
         let zone = zone_told(s);
-        let count = s.events().len();
-        let ordered = sorted(alloc, s.events())?;
-        let listed = Vec::with_capacity(alloc, count)?;
-        let plays = Vec::with_capacity(alloc, MAX_CAMPAIGN_LAYOUTS * count + 1)?;
-        let interrupts = Vec::with_capacity(alloc, count)?;
         let catalog = Catalog::new(alloc, s)?;
-        let hour = Loop::reserve(alloc)?;
+        let layer = layer_of(alloc, &catalog)?;
         Ok(Resolver {
             catalog,
             zone,
-            ordered,
-            listed,
-            plays,
-            interrupts,
-            hour,
+            layer,
         })
     }
 
     /// The local second of a moment, by the snapshot's zone. It takes no memory, so it is always `Ok`.
     pub fn local(&self, moment: Moment) -> Result<LocalSec, AllocError>
         ensures given { IsOk result }
-        ensures value { IfOk result (λ t. t ≡ local_of self.now moment) }
+        ensures value { IfOk result (λ t. t ≡ local_of self.now.snapshot moment) }
         ensures second { IfOk result IsAskable }
     {
         self.zone.local(moment)
     }
 
-    /// What is shown at a local second. It takes no memory, and counts at most one step for each event of
-    /// the snapshot.
+    /// The segment of local seconds for which the hour is kept that was built last: from the first of them up to the
+    /// second.
+    pub fn kept(&self) -> Option<(LocalSec, LocalSec)>
+        ensures { result ≡ self.now.kept }
+    {
+        self.layer.kept()
+    }
+
+    /// What is shown at a local second. It takes no memory.
+    ///
+    /// For a second in the kept segment no event is asked. Else each event of layer 0 is asked twice, and the segment
+    /// that begins at the second is kept: it ends with the second's hour, or where such an event may change.
     pub fn show_at<L: Ledger>(&mut self, t: LocalSec, steps: &mut Steps<L>) -> Show
         requires second { IsAskable t }
-        ensures value { result ≡ shown self.old t }
-        ensures closed { IsShown self.old t result }
-        ensures known { Contains (layout_ids self.old) result.layout }
-        ensures same { self.new ≡ self.old }
-        ensures ticks { steps.new ≤ steps.old + length self.old.events }
+        ensures value { result ≡ shown self.old.snapshot t }
+        ensures closed { IsShown self.old.snapshot t result }
+        ensures known { Contains (layout_ids self.old.snapshot) result.layout }
+        ensures same { self.new.snapshot ≡ self.old.snapshot }
+
+        // What is kept, and how many steps are counted.
+        ensures inside { is_inside self.old.kept t ≡ true →
+            (self.new.kept ≡ self.old.kept) × (steps.new ≡ steps.old) }
+        ensures kept { is_inside self.old.kept t ≡ false →
+            IsKeptFrom (entries_of (picture_layer self.old.snapshot None)) t self.new.kept }
+        ensures ticks { is_inside self.old.kept t ≡ false →
+            steps.new ≡ steps.old + 2 * length (picture_events self.old.snapshot) }
     {
-        list_normal(
-            &self.catalog,
-            self.ordered.as_slice(),
-            t,
-            steps,
-            &mut self.listed,
-            &mut self.plays,
-        );
-        list_interrupts(
-            &self.catalog,
-            self.catalog.snapshot().events(),
-            t,
-            steps,
-            &mut self.listed,
-            &mut self.interrupts,
-        );
-        build_loop(
-            self.plays.as_slice(),
-            self.interrupts.as_slice(),
-            &mut self.hour,
-        );
-        let place = place_in_hour(t);
-        let slot = slot_at(&self.hour, place);
-        show_of(t, place, slot)
+        match self.layer.slot_at(t, steps) {
+            Some(slot) => show_of(t, slot),
+            None => unreachable!(),
+        }
     }
 
     /// The picture at a show of a layout of the snapshot: the medium of each region. It takes no memory.
     pub fn picture(&self, show: &Show) -> Picture
-        requires { Contains (layout_ids self.now) show.now.layout }
-        ensures { result ≡ picture_of self.now show.now }
+        requires { Contains (layout_ids self.now.snapshot) show.now.layout }
+        ensures { result ≡ picture_of self.now.snapshot show.now }
     {
-        let mut picture = Picture::new();
-        if let Some(layout) = self.catalog.layout(show.layout) {
-            fill(&mut picture, layout, show.offset);
-        }
-        picture
+        self.catalog.picture(show)
     }
 }
 
-ghost use Rattle.sg_base.specs.Layout.{LayoutRow, longest, medium_at};
 ghost use Rattle.sg_calendar.specs.Zone.{zone_of};
-ghost use Rattle.sg_resolver.specs.Shown.{place_of, show_of as show_of_slot};
+ghost use Rattle.sg_resolver.specs.Lists.{picture_layer};
 
 // The zone of a valid snapshot's rule.
 fn zone_told(s: &Snapshot) -> Zone
@@ -143,36 +118,12 @@ fn zone_told(s: &Snapshot) -> Zone
     }
 }
 
-// The second of its hour at which a local second stands.
-fn place_in_hour(t: LocalSec) -> u32
-    ensures value { result ≡ place_of t }
-    ensures hour { result < HOUR }
+// The layer of the picture.
+fn layer_of(alloc: Global, catalog: &Catalog) -> Result<Layer, AllocError>
+    ensures { IfOk result (λ l. l ≡ picture_layer catalog.now None) }
 {
-    t.second().rem_euclid(HOUR as i64) as u32
-}
-
-// What is shown at a local second, by the slot that covers its place in the hour.
-fn show_of(t: LocalSec, place: u32, slot: Slot) -> Show
-    requires place { place ≡ place_of t }
-    requires begun { slot.place ≤ place }
-    requires hour { place < HOUR }
-    requires second { IsAskable t }
-    ensures { result ≡ show_of_slot t slot }
-{
-    Show {
-        event: slot.event,
-        layout: slot.layout,
-        slot_start: LocalSec::new(t.second() - place as i64 + slot.place as i64),
-        offset: place - slot.place,
-    }
-}
-
-// Adds the medium of each of the layout's regions, of which there are at most 16.
-fn fill(picture: &mut Picture, layout: &Layout, offset: u32)
-    requires { picture.old ≡ [] }
-    ensures { picture.new ≡ map (λ r. (r.id, medium_at r offset)) layout.now.regions }
-{
-    for (i, region) in layout.regions().iter().enumerate() {
-        picture.add(region.id, layout.item_at(i, offset));
-    }
+    let normal = catalog.entries(alloc, Kind::Normal)?;
+    let interrupts = catalog.entries(alloc, Kind::Interrupt)?;
+    let default = catalog.play(0, catalog.snapshot().default());
+    Layer::new(alloc, normal, interrupts, Some(default))
 }

@@ -14,6 +14,10 @@ use std::test::Fail;
 const THREE: &str =
     r#"{"campaigns":[],"dayparts":[],"default":4,"events":[],"files":[{"id":1,"length":3,"md5":"900150983cd24fb0d6963f7d28e17f72"},{"id":8,"length":3,"md5":"900150983cd24fb0d6963f7d28e17f72"}],"layouts":[{"id":1,"regions":[{"id":1,"items":[{"media":1,"seconds":10}]}]},{"id":4,"regions":[{"id":6,"items":[{"media":8,"seconds":25}]}]},{"id":9,"regions":[{"id":1,"items":[{"media":1,"seconds":7}]}]}],"version":1,"zone":{"offset":90}}"#;
 
+/// A layout of 10 s, and one of 20 s for an event from second 1,000 up to 2,000.
+const TIMED: &str =
+    r#"{"campaigns":[],"dayparts":[],"default":1,"events":[{"id":5,"order":0,"priority":0,"repeat":null,"share":0,"target":{"layout":2},"when":{"from":1000,"to":2000}}],"files":[{"id":1,"length":3,"md5":"900150983cd24fb0d6963f7d28e17f72"}],"layouts":[{"id":1,"regions":[{"id":1,"items":[{"media":1,"seconds":10}]}]},{"id":2,"regions":[{"id":1,"items":[{"media":1,"seconds":20}]}]}],"version":1,"zone":{"offset":0}}"#;
+
 /// The text of a manifest with one layout, which lasts so many seconds, and with an offset in minutes.
 fn one_layout(alloc: Global, seconds: u32, minutes: i32) -> Result<String, Fail> {
     let head =
@@ -126,6 +130,29 @@ fn default_layout_among_others(rt: HostRuntime) -> Result<(), Fail> {
         assert_eq!(rt; picture.len(), 1);
         assert!(rt; 0 < picture.len());
         assert_eq!(rt; picture.at(0), (6, MediaId(8)));
+    }
+    Ok(())
+}
+
+#[test]
+fn a_segment_ends_with_the_hour_or_where_an_event_changes(rt: HostRuntime) -> Result<(), Fail> {
+    let mut resolver = resolver(rt.alloc(), TIMED)?;
+    assert_eq!(rt; resolver.kept(), None);
+    // The moment, and the segment that is kept after it: from a second up to another.
+    let rows = [
+        (999, 999, 1000),
+        (1000, 1000, 2000),
+        (1500, 1000, 2000),
+        (2000, 2000, 3600),
+        (3600, 3600, 7200),
+        // A second before the segment is outside of it.
+        (3599, 3599, 3600),
+    ];
+    for (moment, from, till) in rows {
+        let (_, picture) = shown_at::<Brand>(Blank::new(1), &mut resolver, moment)?;
+        assert_eq!(rt; picture.len(), 1);
+        let kept = Some((LocalSec::new(from), LocalSec::new(till)));
+        assert_eq!(rt; resolver.kept(), kept, "at {moment}");
     }
     Ok(())
 }

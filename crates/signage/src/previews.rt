@@ -74,7 +74,7 @@ fn show_all<L: Ledger, O: Sink>(
     out: &mut O,
     steps: &mut Steps<L>,
 ) -> u8
-    ensures { Prints resolver.old moments.now result (O.written out.old) (O.written out.new)
+    ensures { Prints resolver.old.snapshot moments.now result (O.written out.old) (O.written out.new)
         (O.put_faults out.old) (O.put_faults out.new) }
 {
     for moment in moments {
@@ -98,8 +98,8 @@ fn line_of<L: Ledger>(
     moment: Moment,
     steps: &mut Steps<L>,
 ) -> Result<String, AllocError>
-    ensures text { IfOk result (λ t. string_bytes t ≡ line_at resolver.old moment) }
-    ensures same { resolver.new ≡ resolver.old }
+    ensures text { IfOk result (λ t. string_bytes t ≡ line_at resolver.old.snapshot moment) }
+    ensures same { resolver.new.snapshot ≡ resolver.old.snapshot }
 {
     let t = resolver.local(moment)?;
     let show = resolver.show_at(t, steps);

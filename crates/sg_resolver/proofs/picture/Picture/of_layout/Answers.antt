@@ -2,7 +2,7 @@
 use Rattle.std.proofs.Common.{◌<◌, length, refl}
 use Rattle.std.proofs.lemmas.Option.{slice_get_read}
 use Rattle.sg_resolver.proofs.Pictures.{one_more}
-use Rattle.sg_resolver.proofs.resolver.fill.Goals as goal
+use Rattle.sg_resolver.proofs.picture.Picture.of_layout.Goals as goal
 
 pub loop-i-preserved : goal.loop-i-preserved
 loop-i-preserved c =
