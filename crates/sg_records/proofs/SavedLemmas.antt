@@ -1,5 +1,5 @@
 -- Rows as they are kept: their JSON has no float, reads back, and says the row.
-use Rattle.std.proofs.Common.{◌≡◌, ◌∙◌, ◌⊎◌, ⊎_elim, ℕ, ◌^◌, ◌<◌, Bool, true, false, List, Option, Some, Ok, IsUtf8, refl, ap, subst, arith, inl, inr}
+use Rattle.std.proofs.Common.{eqb, cond, None, ◌≡◌, ◌∙◌, ◌⊎◌, ⊎_elim, ℕ, ◌^◌, ◌<◌, Bool, true, false, List, Option, Some, Ok, IsUtf8, refl, ap, subst, arith, inl, inr}
 use Rattle.std.specs.Prelude.{IfOk, Result, Err}
 use Rattle.std.proofs.lemmas.Bool.{and_parts, eqb-true, ltb-true}
 use Rattle.serde_json.specs.Data.{Data}
@@ -26,7 +26,7 @@ use Rattle.sg_records.specs.declared.reply.Reply.{Reply}
 use Rattle.sg_records.specs.declared.reply.Reply.TheVariants.{Done, Unknown, InUse, Exists, Full, Sequence, Invalid}
 use Rattle.sg_records.specs.Clients.{client_json}
 use Rattle.sg_records.specs.Replies.{reply_json}
-use Rattle.sg_records.specs.Saved.{IsSaved, IsSavedText, is_state, medium_json, saved_json}
+use Rattle.sg_records.specs.Saved.{IsSaved, IsSavedText, is_state, medium_json, saved_json, saved_text}
 use Rattle.sg_records.proofs.SoundSaved.{older_sound, row_sound}
 use Rattle.sg_tables.specs.Entries.{Kept}
 use Rattle.sg_tables.specs.Rows.{code_of, id_in, id_of, number_at}
@@ -62,7 +62,7 @@ row_said r kind d h is said =
 
 -- ---- texts
 
-state_fits : (f : Listed) (received : ℕ) (complete : Bool) → f.length < 2 ^ 32 → is_state (Some f) received complete ≡ true → received < 2 ^ 32
+pub state_fits : (f : Listed) (received : ℕ) (complete : Bool) → f.length < 2 ^ 32 → is_state (Some f) received complete ≡ true → received < 2 ^ 32
 state_fits f received true fits e = let same = eqb-true received f.length e in omega (arith, same)
 state_fits f received false fits e = let less = ltb-true received f.length (and_parts _ _ e).0 in omega (arith, less)
 
@@ -98,6 +98,7 @@ pub record IsKeptJson (e : Kept) (bytes : List ℕ) : Type 0 where
   pub said : (json ≡ saved_json e) ⊎ (older_json e.row ≡ Some json)
 
 pub json_kept : (e : Kept) (bytes : List ℕ) → IsSaved e → IsSavedText e bytes → IsKeptJson e bytes
+unfolding saved_text
 json_kept e bytes h text = ⊎_elim
     (λ now. let sound = saved_sound e.row e.received e.complete h.row h.state in record {
       json = saved_json e;
@@ -160,3 +161,17 @@ not_client (row.Event x) e = cc
 pub map_ok : {A B : Type 0} (r : Result A B) (P Q : A → Type 0) → ((x : A) → P x → Q x) → IfOk r P → IfOk r Q
 map_ok (Ok x) P Q f h = f x h
 map_ok (Err e) P Q f h = tt
+
+-- ---- how much has come
+
+none_came : (received : ℕ) (complete : Bool) → is_state None received complete ≡ true → received < 2 ^ 32
+none_came received complete e = let zero = eqb-true received 0 (and_parts (eqb received 0) complete e).0 in omega (arith, zero)
+
+pub received_fits : (r : Row) (received : ℕ) (complete : Bool) → IsRow Edit r → is_state (file_of r) received complete ≡ true → received < 2 ^ 32
+received_fits (row.Media f) received complete h state = state_fits f received complete (listed_fits f h) state
+received_fits (row.Layout l) received complete h state = none_came received complete state
+received_fits (row.Campaign c) received complete h state = none_came received complete state
+received_fits (row.Daypart d) received complete h state = none_came received complete state
+received_fits (row.Group g) received complete h state = none_came received complete state
+received_fits (row.Display d) received complete h state = none_came received complete state
+received_fits (row.Event e) received complete h state = none_came received complete state

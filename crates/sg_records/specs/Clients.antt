@@ -23,7 +23,8 @@ client_json c = object
     (member (codes "reply") (reply_json c.reply)
     (member (codes "status") (whole (status_of c.reply)) no_members)))
 
-abbrev pub client_text : Client → List ℕ
+-- the text of a client's row
+unfoldable pub client_text : Client → List ℕ
 client_text c = compact_text (client_json c)
 
 -- ---- what is kept

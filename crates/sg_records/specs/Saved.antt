@@ -29,7 +29,7 @@ abbrev pub saved_json : Kept → Data
 saved_json e = saved_json_of (file_of e.row) e
 
 -- the text that is written of a row
-abbrev pub saved_text : Kept → List ℕ
+unfoldable pub saved_text : Kept → List ℕ
 saved_text e = compact_text (saved_json e)
 
 -- a text of a row: the one that is written, or one that a server wrote before version 2

@@ -55,6 +55,7 @@ fn value_of(alloc: Global, client: &Client) -> Result<Value, AllocError>
 }
 
 /// The text of a client's row.
+#[tactic(auto, unfolding(crate::specs::Clients::client_text))]
 pub fn write_client(alloc: Global, client: &Client) -> Result<Rows<u8>, AllocError>
     ensures { IfOk result (λ text. text ≡ client_text client.now) }
 {

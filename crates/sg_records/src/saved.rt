@@ -94,6 +94,7 @@ fn medium_value(
 }
 
 /// The text of a medium's row.
+#[tactic(auto, unfolding(crate::specs::Saved::saved_text))]
 pub fn write_medium(
     alloc: Global,
     file: &Listed,
@@ -108,6 +109,7 @@ pub fn write_medium(
 }
 
 // The text of a row with what has come of it, if it is a medium.
+#[tactic(auto, unfolding(crate::specs::Saved::saved_text))]
 fn write_saved(
     alloc: Global,
     row: &Row,
