@@ -13,4 +13,4 @@ mod shelf;
 
 pub use maps::{BadEntry, MAP_ENTRY_LEN, MAP_LEN, fill_map, read_map};
 pub use page_set::{MAX_PAGES, PageSet};
-pub use shelf::{Found, Shelf};
+pub use shelf::{Found, Shelf, pages_for};

@@ -57,8 +57,8 @@ fn mark_range_of(marks: &mut [bool], placed: &Placed)
     }
 }
 
-// Marks the pages that those of these files touch that have a place.
-fn mark_ranges(marks: &mut [bool], files: &[Placed])
+/// Marks the pages that those of these files touch that have a place.
+pub(crate) fn mark_ranges(marks: &mut [bool], files: &[Placed])
     requires few { length marks.old ≤ MAX_PAGES }
     requires inside { All (IsPlacedIn (PAGE * length marks.old)) files.now }
     ensures { (taken : List Segment) → Marks taken marks.old

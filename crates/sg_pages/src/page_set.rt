@@ -1,13 +1,17 @@
 // A set of pages, with room that was taken once.
 ghost use Rattle.std.specs.Prelude.{◌≡◌, ℕ, ◌+◌, ◌*◌, ◌/◌, ◌<◌, ◌≤◌, List, [], ◌∷◌, ◌++◌, length, take, map, All, IfOk, vec_len, vec_capacity, nat_lt, ◌&&◌, not, true};
 ghost use Rattle.sg_disk.specs.Contents.{Segment, IsInside, page_at};
+ghost use Rattle.std.specs.List.{flat_map};
 ghost use Rattle.sg_pages.specs.Pages.{is_taken, free_pages, Marks};
-ghost use Rattle.sg_pages.specs.Shelves.{all_taken_at, stands, IsFilled, IsPlacedIn};
+ghost use Rattle.sg_pages.specs.Shelves.{all_taken_at, extent_of, stands, IsFilled, IsPlacedIn};
 
-use crate::marks::{count_free, mark_extent, mark_page, mark_pages, mark_shelf, put_lowest};
+use crate::marks::{
+    count_free, mark_extent, mark_page, mark_pages, mark_ranges, mark_shelf, put_lowest,
+};
 use crate::shelf::Shelf;
 use sg_base::limits::MAX_ROOM;
 use sg_disk::PAGE;
+use sg_placing::Placed;
 use std::alloc::{AllocError, Global};
 use std::marker::Model;
 
@@ -82,6 +86,16 @@ impl PageSet {
             → Marks (taken ++ record { place = place; size = size } ∷ []) self.new }
     {
         mark_extent(self.marks.as_mut_slice(), place, size);
+    }
+
+    /// Takes in each page that those of these files touch that stand in a range.
+    pub fn add_ranges(&mut self, files: &[Placed])
+        requires { All (IsPlacedIn (PAGE * length self.old)) files.now }
+        ensures long { length self.new ≡ length self.old }
+        ensures marks { (taken : List Segment) → Marks taken self.old
+            → Marks (taken ++ flat_map extent_of files.now) self.new }
+    {
+        mark_ranges(self.marks.as_mut_slice(), files);
     }
 
     /// Takes in what the files of a shelf take.

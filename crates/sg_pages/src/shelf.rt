@@ -1,9 +1,13 @@
 // Files and where each stands, in room that was taken once.
-ghost use Rattle.std.specs.Prelude.{◌≡◌, ℕ, List, ◌+◌, ◌<◌, ◌≤◌, [], ◌∷◌, ◌++◌, length, find, filter, sum_by, option_map, IfOk, IfSome, vec_len, vec_capacity};
+ghost use Rattle.std.specs.Prelude.{◌≡◌, ℕ, List, ◌+◌, ◌*◌, ◌<◌, ◌≤◌, [], ◌∷◌, ◌++◌, length, find, filter, sum_by, option_map, map, None, Some, OnOk, IfOk, IfErr, IfSome, vec_len, vec_capacity};
 ghost use Rattle.sg_placing.specs.Placing.{same_file, is_listed};
+ghost use Rattle.sg_disk.specs.Contents.{Segment, page_at};
+ghost use Rattle.sg_pages.specs.Pages.{Marks};
+ghost use Rattle.sg_pages.specs.Maps.{pages_of, bad_entry};
 ghost use Rattle.sg_pages.specs.Shelves.{pages_for, stands, stands_in, found_at, stand_in, IsFilled};
 
-use crate::page_set::MAX_PAGES;
+use crate::maps::{BadEntry, MAP_ENTRY_LEN, read_map};
+use crate::page_set::{MAX_PAGES, PageSet};
 use sg_base::Listed;
 use sg_base::limits::MANIFEST_FILES;
 use sg_disk::PAGE;
@@ -64,6 +68,32 @@ impl Shelf {
         ensures { result.now ≡ self.now.pages }
     {
         self.pages.as_slice()
+    }
+
+    /// How many pages its files need.
+    pub fn page_count(&self) -> u32
+        ensures { result ≡ sum_by pages_for self.now.files }
+    {
+        count_pages(self.files.as_slice())
+    }
+
+    /// Reads the pages of a map behind those that it has, and takes each into a set. It stops at the first entry that names no
+    /// page of the data area, or one that the set has already.
+    pub fn read_map(&mut self, bytes: &[u8], count: u32, set: &mut PageSet) -> Result<(), BadEntry>
+        requires bytes { length bytes.now ≡ MAP_ENTRY_LEN * count }
+        requires room { length self.old.pages + count ≤ MAX_PAGES }
+        ensures files { self.new.files ≡ self.old.files }
+        ensures pages { OnOk result (self.new.pages
+            ≡ self.old.pages ++ pages_of bytes.now count) }
+        ensures marks { OnOk result ((taken : List Segment) → Marks taken set.old
+            → Marks (taken ++ map page_at (pages_of bytes.now count)) set.new) }
+        ensures sound { OnOk result ((taken : List Segment) → Marks taken set.old
+            → bad_entry (length set.old) taken 0 (pages_of bytes.now count) ≡ None) }
+        ensures bad { IfErr result (λ entry. (taken : List Segment) → Marks taken set.old
+            → bad_entry (length set.old) taken 0 (pages_of bytes.now count) ≡ Some entry) }
+        ensures long { length set.new ≡ length set.old }
+    {
+        read_map(bytes, count, set, &mut self.pages)
     }
 
     /// Takes all files out.
@@ -159,8 +189,8 @@ fn push_pages(pages: &mut Vec<u16>, more: &[u16])
     }
 }
 
-// How many pages a file has on a shelf.
-fn pages_for(placed: &Placed) -> u32
+/// How many pages a file has on a shelf.
+pub fn pages_for(placed: &Placed) -> u32
     ensures value { result ≡ pages_for placed.now }
     ensures few { result ≤ 65536 }
 {
@@ -168,6 +198,18 @@ fn pages_for(placed: &Placed) -> u32
         return 0;
     }
     u64::from(placed.file.length).div_ceil(PAGE) as u32
+}
+
+// How many pages these files need.
+fn count_pages(files: &[Placed]) -> u32
+    requires { length files.now ≤ MANIFEST_FILES }
+    ensures { result ≡ sum_by pages_for files.now }
+{
+    let mut count = 0;
+    for placed in files {
+        count += pages_for(placed);
+    }
+    count
 }
 
 // The first of these files that is the listed one.

@@ -62,8 +62,8 @@ fn check_head(slot: Slot, head: &Head) -> Result<(), OpenFault>
     Ok(())
 }
 
-// A number that can't stand at a place.
-fn damage(place: u64, found: u32) -> OpenFault
+/// The fault of a number that can't stand at a place.
+pub fn damage(place: u64, found: u32) -> OpenFault
     ensures { result ≡ OpenFault.Damaged place found }
 {
     OpenFault::Damaged {
