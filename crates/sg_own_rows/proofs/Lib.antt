@@ -1,0 +1,4 @@
+pub mod NumberLemmas
+pub mod OwnLemmas
+pub mod ValidLemmas
+pub mod SnapshotLemmas
