@@ -1,13 +1,13 @@
 -- Plays that fill an hour make the same hour as any longer list that they lead.
 use Rattle.std.proofs.Common.{◌≡◌, ℕ, zero, suc, ◌+◌, ◌-◌, ◌<◌, ◌≤◌, Bool, true, false, eqb, List, [], ◌∷◌, ◌++◌, length, drop, get_or, filter, refl, ap, sym, subst, ◌∙◌, inl, inr, arith, add-one, drop-cons, length-append}
 use Rattle.std.specs.List.{AllByRecursion, flat_map}
-use Rattle.std.proofs.lemmas.Bool.{cases_eq, cases_lt, cases_Bool, cond-true, cond-false, ne_eqb}
+use Rattle.std.proofs.lemmas.Bool.{cases_eq, cases_lt, cond-true, cond-false, ne_eqb}
 use Rattle.std.proofs.lemmas.List.{append-nil, append_assoc, get_or_append_left}
 use Rattle.std.proofs.Math.ListN.{drop_of_length-le}
 use Rattle.std.proofs.Math.Nat.{mod-eq_of_lt}
 use Rattle.sg_voice.specs.declared.play.Play.{Play}
 use Rattle.sg_voice.specs.declared.play.Interrupt.{Interrupt}
-use Rattle.sg_voice.specs.Hour.{IsPlay, total, cyclic, fill_from, normal_count, mixed, mixed_plays, hour_plays, interrupt_plays, placed, slots_of}
+use Rattle.sg_voice.specs.Hour.{total, cyclic, fill_from, normal_count, mixed, mixed_plays, hour_plays, interrupt_plays, placed, slots_of}
 use Rattle.sg_voice.proofs.MixLemmas.{filled}
 use Rattle.sg_voice.proofs.TileLemmas.{plays_full, plays_mixed}
 use Rattle.sg_layer.specs.declared.entry.Entry.{Entry}

@@ -1,11 +1,11 @@
 -- The events of a kind.
-use Rattle.std.proofs.Common.{◌≡◌, ◌≢◌, ℕ, ◌+◌, ◌<◌, ◌&&◌, Bool, true, false, eqb, nat_lt, cond, List, [], ◌∷◌, length, filter, refl, sym, ap, subst, ◌∙◌, inl, inr, arith}
+use Rattle.std.proofs.Common.{◌≡◌, ◌≢◌, ℕ, ◌+◌, ◌&&◌, Bool, true, eqb, nat_lt, cond, List, [], ◌∷◌, length, filter, refl, sym, subst, inl, inr, arith}
 use Rattle.std.specs.List.{AllByRecursion}
 use Rattle.std.proofs.lemmas.Bool.{cases_Bool, cases_lt, lt-ltb, ne_eqb}
 use Rattle.sg_base.specs.Event.{EventValue}
 use Rattle.sg_layer.specs.declared.kind.Kind.{Kind}
 use Rattle.sg_layer.specs.declared.kind.Kind.TheVariants.{Normal, Interrupt, Overlay}
-use Rattle.sg_layer.specs.Kinds.{is_of, events_of, by_order}
+use Rattle.sg_layer.specs.Kinds.{is_of, events_of}
 use Rattle.sg_layer.proofs.ListLemmas.{all_passing}
 use Rattle.sg_layer.proofs.OrderLemmas.{all_by_order, length_by_order}
 

@@ -1,5 +1,5 @@
 -- The segment for which an hour is kept, and what the hour shows at its seconds.
-use Rattle.std.proofs.Common.{◌≡◌, ℕ, ◌+◌, ◌<◌, ◌≤◌, Bool, true, ◌&&◌, List, [], ◌∷◌, ◌++◌, length, filter, map, Option, Some, None, refl, ap, sym, subst, ◌∙◌, inl, inr, arith, ℤ}
+use Rattle.std.proofs.Common.{◌≡◌, ℕ, ◌+◌, ◌<◌, ◌≤◌, true, ◌&&◌, List, [], ◌∷◌, ◌++◌, length, filter, map, Option, Some, None, refl, ap, sym, subst, ◌∙◌, inl, inr, arith, ℤ}
 use Rattle.std.proofs.lemmas.List.{append-nil}
 use Rattle.std.proofs.lemmas.Bool.{and_parts}
 use Rattle.std.proofs.lemmas.Int.{ints}
@@ -9,18 +9,17 @@ use Rattle.sg_events.proofs.EdgeLemmas.{activity_same}
 use Rattle.sg_voice.specs.declared.play.Play.{Play}
 use Rattle.sg_voice.specs.declared.play.Interrupt.{Interrupt}
 use Rattle.sg_voice.specs.declared.play.Slot.{Slot}
-use Rattle.sg_voice.specs.Hour.{slots_of, covering, Tiles, interrupt_plays}
-use Rattle.sg_voice.specs.Begin.{IsSlot}
+use Rattle.sg_voice.specs.Hour.{slots_of, covering, Tiles}
 use Rattle.sg_voice.proofs.ExactLemmas.{exact_since}
 use Rattle.sg_voice.proofs.TileLemmas.{slots_tile}
 use Rattle.sg_layer.specs.declared.entry.Entry.{Entry}
 use Rattle.sg_layer.specs.declared.room.Room.{Room}
 use Rattle.sg_layer.specs.Lists.{IsEntry, is_active, highest, plays_of, or_else, interrupt_of}
 use Rattle.sg_layer.specs.Front.{IsFront}
-use Rattle.sg_layer.specs.Shown.{LayerValue, IsLayer, entries_of, plays_at, interrupts_at, place_of, slot_of, slot_at, IsSlotAt}
-use Rattle.sg_layer.specs.Segment.{hour_end, IsNext, IsSomeNext, IsUpToNext, IsSoonest, is_inside}
+use Rattle.sg_layer.specs.Shown.{LayerValue, IsLayer, plays_at, interrupts_at, place_of, slot_of, slot_at, IsSlotAt}
+use Rattle.sg_layer.specs.Segment.{IsSomeNext, IsUpToNext, IsSoonest, is_inside}
 use Rattle.sg_layer.specs.Ready.{Holds, HoldsFor, IsReady}
-use Rattle.sg_layer.proofs.FrontLemmas.{front_none, front_some, front_slots}
+use Rattle.sg_layer.proofs.FrontLemmas.{front_none, front_some}
 use Rattle.sg_layer.proofs.SoundLemmas.{plays_sound, interrupts_sound}
 
 -- ---- Where a segment ends

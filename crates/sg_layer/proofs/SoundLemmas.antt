@@ -1,5 +1,5 @@
 -- What the entries of a layer say of the plays and the interrupts that they make.
-use Rattle.std.proofs.Common.{◌≡◌, ℕ, ◌<◌, Bool, eqb, List, [], ◌∷◌, ◌++◌, length, map, filter, Option, Some, None, refl, ap, sym, subst, ◌∙◌, arith, ℤ}
+use Rattle.std.proofs.Common.{◌≡◌, ◌<◌, Bool, eqb, List, [], ◌∷◌, length, map, filter, Option, Some, None, refl, ap, subst, ◌∙◌, arith, ℤ}
 use Rattle.std.specs.List.{AllByRecursion, flat_map}
 use Rattle.std.specs.Prelude.{IfSome}
 use Rattle.sg_voice.specs.declared.play.Play.{Play}

@@ -1,5 +1,5 @@
 -- The plays and the interrupts that events make at a local second.
-use Rattle.std.specs.Prelude.{◌==◌, ℕ, max, ◌<◌, ◌≤◌, ◌≡◌, Bool, List, [], ◌∷◌, map, filter, length, IfSome, Option, None, Some, slice_index_or, ℤ}
+use Rattle.std.specs.Prelude.{◌==◌, ℕ, max, ◌<◌, ◌≤◌, Bool, List, [], ◌∷◌, filter, length, IfSome, Option, None, Some, slice_index_or, ℤ}
 use Rattle.std.specs.List.{flat_map, AllByRecursion}
 use Rattle.sg_base.specs.declared.limits.TheConstants.{MAX_SHARE}
 use Rattle.sg_base.specs.Daypart.{IsDaypart}

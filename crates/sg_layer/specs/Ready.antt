@@ -1,7 +1,6 @@
 -- What a layer keeps beside its entries. No public clause cites it.
-use Rattle.std.specs.Prelude.{◌≡◌, ℕ, ◌<◌, ◌≤◌, List, length, Option, None, Some, ℤ, vec_capacity}
+use Rattle.std.specs.Prelude.{◌≡◌, ℕ, ◌<◌, ◌≤◌, length, Option, None, Some, ℤ, vec_capacity}
 use Rattle.sg_base.specs.declared.limits.TheConstants.{HOUR}
-use Rattle.sg_voice.specs.declared.play.Slot.{Slot}
 use Rattle.sg_voice.specs.Hour.{slots_of}
 use Rattle.sg_layer.specs.declared.room.Room.{Room}
 use Rattle.sg_layer.specs.Front.{IsFront}

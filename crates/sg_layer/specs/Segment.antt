@@ -1,5 +1,5 @@
 -- The segment of local seconds from one on throughout which an hour stays as it is.
-use Rattle.std.specs.Prelude.{◌≡◌, ℕ, int_le, int_lt, ◌&&◌, ◌⊎◌, Bool, false, List, [], ◌∷◌, Option, None, Some, ℤ, pos, ◌+ℤ◌, ◌-ℤ◌, ◌≤ℤ◌}
+use Rattle.std.specs.Prelude.{◌≡◌, int_le, int_lt, ◌&&◌, ◌⊎◌, Bool, false, List, [], ◌∷◌, Option, None, Some, ℤ, pos, ◌+ℤ◌, ◌-ℤ◌, ◌≤ℤ◌}
 use Rattle.std.specs.List.{AllByRecursion}
 use Rattle.sg_base.specs.declared.limits.TheConstants.{HOUR}
 use Rattle.sg_events.specs.Edges.{IsNextEdge}

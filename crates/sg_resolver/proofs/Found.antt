@@ -1,15 +1,12 @@
 -- Rows found by their id.
-use Rattle.std.proofs.Common.{◌≡◌, ℕ, ◌<◌, ◌≤◌, true, eqb, Bool, cond, List, [], ◌∷◌, length, map, get_or, Option, Some, None, false, zero, suc, refl, ap, ◌∙◌, arith, inl, inr, sym, subst}
+use Rattle.std.proofs.Common.{◌≡◌, ℕ, ◌<◌, true, eqb, Bool, cond, List, [], ◌∷◌, length, map, get_or, Option, Some, None, false, zero, suc, refl, ap, ◌∙◌, arith, inl, inr, sym, subst}
 use Rattle.std.proofs.lemmas.Bool.{eq-eqb, ne_eqb, cases_Bool}
 use Rattle.std.proofs.lemmas.List.{length-map, get_or-map}
-use Rattle.std.proofs.lemmas.List.Elements.{All-from_recursion}
 use Rattle.std.proofs.lemmas.List.Kept.{AllPairs-from_increasing}
 use Rattle.std.specs.List.Sorted.{IsStrictlyIncreasing, IsNonDecreasing}
 use Rattle.std.specs.List.{AllByRecursion, find, Contains}
-use Rattle.sg_base.specs.declared.campaign.Campaign.{Campaign as CampaignRow}
 use Rattle.sg_base.proofs.FaultLemmas.{if_none}
 use Rattle.sg_base.specs.Index.{IsIndexOf}
-use Rattle.sg_rows.specs.Rows.{IsCampaignRow}
 use Rattle.std.proofs.lemmas.Bool.{cases_lt}
 
 -- a row whose id stands at a place among the ids is found

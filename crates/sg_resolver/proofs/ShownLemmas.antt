@@ -1,16 +1,15 @@
 -- What is shown, from the slot of the picture's layer.
-use Rattle.std.proofs.Common.{◌≡◌, ◌*◌, ℕ, ◌+◌, ◌<◌, ◌≤◌, List, [], ◌∷◌, length, map, filter, Option, Some, None, refl, ap, sym, subst, ◌∙◌, arith, length-append}
+use Rattle.std.proofs.Common.{◌≡◌, ◌<◌, List, [], ◌∷◌, length, Option, Some, None, refl, ap, ◌∙◌, arith, length-append}
 use Rattle.std.specs.List.{Contains}
-use Rattle.std.specs.Prelude.{ℤ, IfSome}
+use Rattle.std.specs.Prelude.{ℤ}
 use Rattle.std.proofs.lemmas.List.{length-map}
-use Rattle.sg_base.specs.Event.{EventValue}
 use Rattle.sg_voice.specs.declared.play.Play.{Play}
 use Rattle.sg_voice.specs.declared.play.Interrupt.{Interrupt}
 use Rattle.sg_voice.specs.declared.play.Slot.{Slot}
-use Rattle.sg_voice.specs.Hour.{slots_of, covering, interrupt_plays}
+use Rattle.sg_voice.specs.Hour.{slots_of, covering}
 use Rattle.sg_layer.specs.declared.kind.Kind.TheVariants.{Normal, Interrupt as Sharing}
 use Rattle.sg_layer.specs.Kinds.{events_of}
-use Rattle.sg_layer.specs.Shown.{LayerValue, place_of, slot_of, IsSlotAt}
+use Rattle.sg_layer.specs.Shown.{place_of, slot_of, IsSlotAt}
 use Rattle.sg_layer.specs.Shown.{slot_at as slot_at_of, entries_of as entries_of_layer}
 use Rattle.sg_layer.proofs.KindLemmas.{length_kinds}
 use Rattle.sg_manifest.specs.Snapshot.{SnapshotRow, IsSnapshot, layout_ids}

@@ -12,7 +12,7 @@ use Rattle.sg_voice.specs.Hour.{shown_from as slots_from, seconds_shown as secon
 use Rattle.sg_voice.proofs.SecondLemmas.{shown_all}
 use Rattle.sg_voice.proofs.TileLemmas.{slots_tile}
 use Rattle.sg_manifest.specs.Snapshot.{SnapshotRow, IsSnapshot}
-use Rattle.sg_resolver.specs.Lists.{picture_layer, normal_plays, interrupts}
+use Rattle.sg_resolver.specs.Lists.{picture_layer}
 use Rattle.sg_layer.specs.Shown.{place_of}
 use Rattle.sg_layer.proofs.SoundLemmas.{plays_sound, interrupts_sound}
 use Rattle.sg_resolver.specs.Shown.{slot_at, shown}

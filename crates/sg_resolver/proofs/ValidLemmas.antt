@@ -1,5 +1,5 @@
 -- What a valid snapshot says of the plays and the interrupts that its events make.
-use Rattle.std.proofs.Common.{◌≡◌, ℕ, ◌<◌, ◌≤◌, Bool, true, false, ◌&&◌, ◌||◌, eqb, nat_lt, List, [], ◌∷◌, length, map, filter, Option, Some, None, refl, sym, ap, subst, arith}
+use Rattle.std.proofs.Common.{◌≡◌, ℕ, ◌<◌, ◌≤◌, Bool, true, false, ◌&&◌, ◌||◌, eqb, nat_lt, List, [], ◌∷◌, length, map, Option, Some, None, refl, sym, subst, arith}
 use Rattle.std.specs.List.{AllByRecursion, flat_map, find, Contains}
 use Rattle.std.specs.Option.{option_map_or}
 use Rattle.std.specs.Prelude.{ℤ, IfSome, if◌then◌else◌}
@@ -30,8 +30,8 @@ use Rattle.sg_voice.proofs.SoundLemmas.{all_append, all_interrupt_plays, at_cycl
 use Rattle.sg_layer.specs.declared.entry.Entry.{Entry}
 use Rattle.sg_layer.specs.declared.kind.Kind.{Kind}
 use Rattle.sg_layer.specs.declared.kind.Kind.TheVariants.{Normal, Interrupt as Sharing}
-use Rattle.sg_layer.specs.Kinds.{is_of, events_of}
-use Rattle.sg_layer.specs.Lists.{IsEntry, IsSharing, is_active, played_at, or_else, first_play, interrupt_of}
+use Rattle.sg_layer.specs.Kinds.{events_of}
+use Rattle.sg_layer.specs.Lists.{IsEntry, IsSharing, played_at, or_else, first_play, interrupt_of}
 use Rattle.sg_layer.specs.Lists.{plays_of as plays_of_entries}
 use Rattle.sg_layer.specs.Shown.{IsLayer}
 use Rattle.sg_layer.proofs.KindLemmas.{IsChosen, all_events}

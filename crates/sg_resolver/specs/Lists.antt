@@ -1,5 +1,5 @@
 -- The two lists of plays that a snapshot's events make at a local second.
-use Rattle.std.specs.Prelude.{ℕ, ◌==◌, List, ◌++◌, map, filter, Option, None, Some, ℤ}
+use Rattle.std.specs.Prelude.{ℕ, ◌==◌, List, map, filter, Option, None, Some, ℤ}
 use Rattle.sg_base.specs.declared.ids.LayoutId.{LayoutId}
 use Rattle.sg_base.specs.Layout.{longest}
 use Rattle.sg_base.specs.Event.{EventValue}

@@ -1,6 +1,7 @@
 //! The events of a snapshot, each with its daypart and its plays.
 
 ghost use Rattle.std.specs.Prelude.{◌≡◌, map, IfOk};
+ghost use Rattle.sg_manifest.specs.Snapshot.{IsSnapshot};
 ghost use Rattle.sg_resolver.specs.Rows.{daypart_of};
 ghost use Rattle.sg_resolver.specs.Lists.{play_of, plays_of, entry_of, entries_of};
 
@@ -13,7 +14,8 @@ use std::alloc::{AllocError, Global};
 impl Catalog {
     /// The entries of a kind of event, in the kind's order.
     pub fn entries(&self, alloc: Global, kind: Kind) -> Result<Vec<Entry>, AllocError>
-        ensures { IfOk result (λ v. v.items ≡ entries_of self.now kind) }
+        ensures value { IfOk result (λ v. v.items ≡ entries_of self.now kind) }
+        ensures valid { IsSnapshot self.now }
     {
         let events = events_of(alloc, self.snapshot().events(), kind)?;
         let mut entries = Vec::new(alloc);

@@ -1,5 +1,5 @@
 -- One entry further, the rest of the entries is that entry and what comes after it.
-use Rattle.std.proofs.Common.{◌≡◌, ◌+◌, ◌*◌, List, [], ◌∷◌, ◌++◌, length, drop, map, ap, ◌∙◌, sym, subst, arith, ℤ, Bool, length-append}
+use Rattle.std.proofs.Common.{◌≡◌, ◌+◌, List, [], ◌∷◌, ◌++◌, length, drop, map, ap, ◌∙◌, sym, subst, arith, Bool, length-append}
 use Rattle.std.proofs.lemmas.List.{append_assoc, append-nil}
 use Rattle.std.proofs.lemmas.List.Elements.{All-from_recursion}
 use Rattle.std.proofs.Math.ListN.{drop_of_length-le}

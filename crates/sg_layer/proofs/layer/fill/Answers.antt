@@ -1,5 +1,5 @@
 -- What is listed is what is played, and the hour that is built of it is that of all plays.
-use Rattle.std.proofs.Common.{◌≡◌, ◌<◌, ◌++◌, List, length, None, map, ap, sym, subst, ◌∙◌, arith}
+use Rattle.std.proofs.Common.{◌++◌, List, None, ap, sym, subst, ◌∙◌, arith}
 use Rattle.std.specs.List.{AllByRecursion}
 use Rattle.std.proofs.lemmas.Bool.Decides.{nat_tests}
 use Rattle.sg_voice.specs.declared.play.Play.{Play}

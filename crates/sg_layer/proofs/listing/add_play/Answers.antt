@@ -1,10 +1,10 @@
 -- A play that finds an hour full needn't be listed.
-use Rattle.std.proofs.Common.{◌≡◌, List, [], ◌∷◌, ◌++◌, ap, ◌∙◌, sym, subst, arith}
+use Rattle.std.proofs.Common.{List, [], ◌∷◌, ap, sym, subst, arith}
 use Rattle.sg_voice.specs.declared.play.Play.{Play}
 use Rattle.sg_voice.specs.Hour.{total}
 use Rattle.sg_voice.proofs.RoundLemmas.{weight_append}
 use Rattle.sg_layer.specs.Front.{Leads}
-use Rattle.sg_layer.proofs.FrontLemmas.{leads_on, leads_full}
+use Rattle.sg_layer.proofs.FrontLemmas.{leads_on}
 use Rattle.sg_layer.proofs.listing.add_play.Goals as goal
 
 pub returns-clause-items : goal.returns-clause-items

@@ -1,7 +1,6 @@
 -- What is held for the second of the segment is what the layer shows.
-use Rattle.std.proofs.Common.{◌≡◌, ◌<◌, true, length, None, Some, Option, sym, subst, ◌∙◌, ap, arith}
+use Rattle.std.proofs.Common.{◌≡◌, true, sym, subst, ◌∙◌, ap, arith}
 use Rattle.std.proofs.lemmas.Bool.Decides.{nat_tests}
-use Rattle.sg_voice.specs.declared.play.Slot.{Slot}
 use Rattle.sg_layer.specs.Shown.{LayerValue, slot_at, IsSlotAt}
 use Rattle.sg_layer.specs.Segment.{is_inside}
 use Rattle.sg_layer.proofs.SegmentLemmas.{held_at, shown_none, shown_some, hour_tiles, shown_closed}

@@ -1,12 +1,11 @@
 -- The layer that is asked is the picture's, which always has a slot.
-use Rattle.std.proofs.Common.{◌≡◌, ◌+◌, ◌*◌, ℕ, true, false, length, None, Some, subst, ap, sym, ◌∙◌, arith, Option}
+use Rattle.std.proofs.Common.{◌≡◌, ℕ, false, length, subst, ap, sym, ◌∙◌, arith}
 use Rattle.std.specs.List.{Contains}
-use Rattle.sg_voice.specs.declared.play.Slot.{Slot}
 use Rattle.sg_layer.specs.Shown.{LayerValue, entries_of, IsSlotAt}
 use Rattle.sg_layer.specs.Shown.{slot_at as slot_at_of}
 use Rattle.sg_layer.specs.Segment.{is_inside}
 use Rattle.sg_manifest.specs.Snapshot.{layout_ids}
-use Rattle.sg_resolver.specs.Lists.{picture_layer, picture_events}
+use Rattle.sg_resolver.specs.Lists.{picture_events}
 use Rattle.sg_resolver.specs.Ready.{Adopted}
 use Rattle.sg_resolver.specs.Shown.{shown}
 use Rattle.sg_resolver.proofs.ShownLemmas.{never_none, shown_is, shown_there, entries_count}
