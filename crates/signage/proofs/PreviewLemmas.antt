@@ -1,5 +1,5 @@
 -- From the parts of a preview to the whole.
-use Rattle.std.proofs.Common.{◌≡◌, ℕ, ◌+◌, ◌<◌, ◌≤◌, true, List, [], ◌∷◌, ◌++◌, length, take, get_or, Contains, ◌⊎◌, inl, inr, Result, Ok, Err, MatchResult, zero, suc, refl, sym, lit<, arith}
+use Rattle.std.proofs.Common.{◌≡◌, ℕ, ◌+◌, ◌<◌, ◌≤◌, true, List, [], ◌∷◌, length, get_or, Contains, ◌⊎◌, inl, inr, Result, Ok, Err, MatchResult, zero, suc, refl, sym, lit<, arith}
 use Rattle.sg_base.specs.declared.limits.TheConstants.{MANIFEST_TEXT}
 use Rattle.sg_manifest.specs.declared.fault.ManifestFault.{ManifestFault}
 use Rattle.sg_manifest.specs.declared.fault.ManifestFault.TheVariants.{Memory as OutOfMemory}
@@ -33,9 +33,9 @@ timeline_cases status known = two_cases status known.0 known.1 known.2
 pub all_lines : (s : SnapshotRow) (moments : List ℕ) → IsTimeline s moments 0 (lines_of s moments)
 all_lines s moments = record { known = (0, lit< tt, refl); all = λ e. refl; memory = λ e. absurd (omega (arith, e)) }
 
--- some first lines, and want of memory
-pub first_lines : (s : SnapshotRow) (moments : List ℕ) (n : ℕ) → n ≤ length moments → IsTimeline s moments 9 (lines_of s (take n moments) ++ memory_fault)
-first_lines s moments n some = record { known = (1, lit< tt, refl); all = λ e. absurd (omega (arith, e)); memory = λ e. record { n = n; some = some; is = refl } }
+-- no line, and want of memory
+pub no_lines : (s : SnapshotRow) (moments : List ℕ) → IsTimeline s moments 9 memory_fault
+no_lines s moments = record { known = (1, lit< tt, refl); all = λ e. absurd (omega (arith, e)); memory = λ e. refl }
 
 -- a timeline of the snapshot that was read is a preview
 pub previewed : (before after : Input) (s : SnapshotRow) (moments : List ℕ) → Reads before after s → (status : ℕ) (text : List ℕ) → IsTimeline s moments status text → IsPreview before after moments status text
@@ -45,11 +45,7 @@ previewed before after s moments reads status text t = record {
   shown = λ e. record { snapshot = s; reads = reads; lines = t.all e };
   refused = λ e. absurd (elim (timeline_cases status t.known) [ inl z ↦ omega (arith, e, z) | inr z ↦ omega (arith, e, z) ]);
   read = λ e. absurd (elim (timeline_cases status t.known) [ inl z ↦ omega (arith, e, z) | inr z ↦ omega (arith, e, z) ]);
-  memory = λ e. record {
-    lines = lines_of s (take (t.memory e).n moments);
-    some = inr (record { n = (t.memory e).n; some = (t.memory e).some; shows = record { snapshot = s; reads = reads; lines = refl } });
-    is = (t.memory e).is;
-  };
+  memory = t.memory;
 }
 
 -- and so is a stop with its cause
@@ -85,7 +81,7 @@ stop_preview before after moments Memory h = record {
   shown = λ e. absurd (omega (arith, e));
   refused = λ e. absurd (omega (arith, e));
   read = λ e. absurd (omega (arith, e));
-  memory = λ e. record { lines = []; some = inl refl; is = refl };
+  memory = λ e. refl;
 }
 
 -- the whole of an input that is short enough was taken

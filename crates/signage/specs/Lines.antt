@@ -1,29 +1,24 @@
--- The timeline: one line for each moment, by the slot and the picture of a snapshot.
-use Rattle.std.specs.Prelude.{ℕ, List, ◌++◌, codes}
+-- The timeline: one line for each moment, by the picture of a snapshot and its overlays.
+use Rattle.std.specs.Prelude.{ℕ, List, ℤ, option_map}
 use Rattle.std.specs.List.{flat_map}
-use Rattle.std.specs.Fmt.{decimal, signed_decimal}
-use Rattle.sg_base.specs.declared.ids.MediaId.{MediaId}
+use Rattle.sg_line.specs.declared.shown.Shown.{Shown}
+use Rattle.sg_line.specs.Lines.{line_text}
 use Rattle.sg_manifest.specs.Snapshot.{SnapshotRow}
+use Rattle.sg_overlay.specs.Over.{over}
 use Rattle.sg_resolver.specs.declared.show.Show.{Show}
 use Rattle.sg_resolver.specs.Shown.{local_of, shown, picture_of}
 
--- moment, event, layout, where the slot began, and how long ago
-unfoldable pub head_text : ℕ → Show → List ℕ
-head_text moment show =
-    decimal moment ++ (codes " e" ++ (decimal show.event ++ (codes " l" ++ (decimal show.layout
-    ++ (codes " s" ++ (signed_decimal show.slot_start ++ (codes " o" ++ decimal show.offset)))))))
+-- a show with its picture
+abbrev pub pictured : SnapshotRow → Show → Shown
+pictured s show = record { show = show; picture = picture_of s show }
 
--- a region and the medium that it shows
-unfoldable pub entry_text : ℕ × MediaId → List ℕ
-entry_text entry = codes " r" ++ (decimal entry.0 ++ (codes ":m" ++ decimal entry.1.0))
-
--- a shown line
-abbrev pub line_text : ℕ → Show → List (ℕ × MediaId) → List ℕ
-line_text moment show picture = head_text moment show ++ (flat_map entry_text picture ++ codes "\n")
+-- the line of a moment at a local second
+abbrev pub line_by : SnapshotRow → ℕ → ℤ → List ℕ
+line_by s moment t = line_text moment (pictured s (shown s t)) (option_map (pictured s) (over s t))
 
 -- the line of a moment
 unfoldable pub line_at : SnapshotRow → ℕ → List ℕ
-line_at s moment = line_text moment (shown s (local_of s moment)) (picture_of s (shown s (local_of s moment)))
+line_at s moment = line_by s moment (local_of s moment)
 
 -- one line for each moment, in the moments' order
 abbrev pub lines_of : SnapshotRow → List ℕ → List ℕ

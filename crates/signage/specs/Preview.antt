@@ -1,5 +1,5 @@
 -- What `preview` does: it reads one manifest and writes one line for each moment.
-use Rattle.std.specs.Prelude.{◌≡◌, ◌≢◌, ℕ, ◌+◌, ◌-◌, ◌<◌, ◌≤◌, ◌==◌, if◌then◌else◌, ◌⊎◌, List, [], ◌∷◌, ◌++◌, length, take, Contains, slice_index, Err}
+use Rattle.std.specs.Prelude.{◌≡◌, ◌≢◌, ℕ, ◌+◌, ◌-◌, ◌≤◌, ◌==◌, if◌then◌else◌, ◌⊎◌, List, [], ◌∷◌, length, take, Contains, slice_index, Err}
 use Rattle.std.specs.declared.option.Option.{Option}
 use Rattle.std.specs.Io.KnownBytes.{Consumes, IsAtEnd}
 use Rattle.sg_base.specs.declared.limits.TheConstants.{MANIFEST_TEXT}
@@ -43,12 +43,6 @@ pub record Shows (before after : Input) (moments output : List ℕ) : Type 0 whe
   pub reads : Reads before after snapshot
   pub lines : output ≡ lines_of snapshot moments
 
--- the lines of the first n moments
-pub record ShowsFirst (before after : Input) (moments output : List ℕ) : Type 0 where
-  pub n : ℕ
-  pub some : n ≤ length moments
-  pub shows : Shows before after (take n moments) output
-
 -- the input is too long: one byte more was taken than an input may have, and no further one
 pub record IsLong (before after : Input) : Type 0 where
   pub input : List ℕ
@@ -66,17 +60,11 @@ abbrev pub Refuses : Input → Input → List ℕ → Type 0
 Refuses before after output =
     (IsLong before after × (output ≡ too_long)) ⊎ ((fault : ManifestFault) × IsRefused before after fault × (output ≡ no_manifest fault))
 
--- want of memory: after the lines of some first moments, or before any
-pub record RunsOut (before after : Input) (moments output : List ℕ) : Type 0 where
-  pub lines : List ℕ
-  pub some : (lines ≡ []) ⊎ ShowsFirst before after moments lines
-  pub is : output ≡ lines ++ memory_fault
-
--- a preview's status and output; a take that failed isn't tried again, but told
+-- a preview's status and output; a take that failed isn't tried again, but told, and memory runs out before any line
 pub record IsPreview (before after : Input) (moments : List ℕ) (status : ℕ) (output : List ℕ) : Type 0 where
   pub known : Contains (0 ∷ 3 ∷ 4 ∷ 9 ∷ []) status
   pub quiet : status ≢ 4 → after.faults ≡ before.faults
   pub shown : status ≡ 0 → Shows before after moments output
   pub refused : status ≡ 3 → Refuses before after output
   pub read : status ≡ 4 → Rose before.faults after.faults × (output ≡ read_fault)
-  pub memory : status ≡ 9 → RunsOut before after moments output
+  pub memory : status ≡ 9 → output ≡ memory_fault

@@ -1,22 +1,16 @@
 -- For private clauses: how the lines of a snapshot are written.
-use Rattle.std.specs.Prelude.{◌≡◌, ℕ, ◌≤◌, List, [], ◌∷◌, ◌++◌, length, take, Contains}
+use Rattle.std.specs.Prelude.{◌≡◌, ℕ, List, [], ◌∷◌, Contains}
 use Rattle.std.specs.declared.option.Option.{Option}
 use Rattle.sg_manifest.specs.Snapshot.{SnapshotRow}
 use Rattle.signage.specs.Texts.{memory_fault}
 use Rattle.signage.specs.Lines.{lines_of}
 use Rattle.signage.specs.Top.{Ends}
 
--- the lines of the first moments, and the text of want of memory
-pub record FirstLines (s : SnapshotRow) (moments output : List ℕ) : Type 0 where
-  pub n : ℕ
-  pub some : n ≤ length moments
-  pub is : output ≡ lines_of s (take n moments) ++ memory_fault
-
--- every line, or some first ones where memory ran out
+-- every line, or none where memory ran out
 pub record IsTimeline (s : SnapshotRow) (moments : List ℕ) (status : ℕ) (output : List ℕ) : Type 0 where
   pub known : Contains (0 ∷ 9 ∷ []) status
   pub all : status ≡ 0 → output ≡ lines_of s moments
-  pub memory : status ≡ 9 → FirstLines s moments output
+  pub memory : status ≡ 9 → output ≡ memory_fault
 
 abbrev pub Prints : SnapshotRow → List ℕ → ℕ → Option (List ℕ) → Option (List ℕ) → ℕ → ℕ → Type 0
 Prints s moments status old new faults faults' = Ends (IsTimeline s moments) status old new faults faults'

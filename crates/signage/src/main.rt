@@ -16,10 +16,10 @@ use stop::{Stop, finish};
 use tops::{Outside, top};
 
 mod command;
+mod display;
 #[cfg(test)]
 mod faults;
 mod input;
-mod lines;
 mod place;
 mod placing;
 mod previews;

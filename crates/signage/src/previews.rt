@@ -1,32 +1,27 @@
 //! `preview`: the timeline of one manifest at some moments.
 
-ghost use Rattle.std.specs.Prelude.{◌≡◌, ◌<◌, ◌≤◌, length, take, IfOk, OnOk, OnErr, MatchResult, string_bytes};
-ghost use Rattle.std.specs.Io.KnownBytes.{Appends};
-ghost use Rattle.sg_base.specs.Causes.{Rose, HasCause};
-ghost use Rattle.sg_outside.specs.Streams.{AppendsPart};
-ghost use Rattle.signage.specs.Lines.{line_at, lines_of};
+ghost use Rattle.std.specs.Prelude.{◌≡◌, ◌<◌};
 ghost use Rattle.signage.specs.Preview.{IsPreview, side};
 ghost use Rattle.signage.specs.Top.{Ends};
 ghost use Rattle.signage.specs.Printing.{Prints};
 
+use crate::display::Display;
 use crate::input::load;
-use crate::lines::line;
 use crate::stop::{Stop, WRITE_FAULT, finish};
 use sg_base::{Moment, Steps};
 use sg_manifest::Snapshot;
 use sg_outside::{Sink, Source, put_all};
-use sg_resolver::Resolver;
-use std::alloc::{AllocError, Global};
+use std::alloc::Global;
 use std::marker::Brand;
 use std::sync::ledger::{Blank, Ledger};
 
-/// Reads one manifest and writes one line for each moment, by the slot and the picture of the snapshot. The
-/// answer is the status:
+/// Reads one manifest and writes one line for each moment, by the slots and the pictures of the snapshot and of its
+/// overlays. The answer is the status:
 /// - 0: the input was read to its end, and every line was written;
 /// - 3: the input is longer than 1,048,577 bytes, or no manifest: the name of its first fault is written;
 /// - 4: the source failed;
 /// - 5: the sink failed, and nothing was written after that;
-/// - 9: memory ran out, after the lines of some first moments or before any.
+/// - 9: memory ran out, before any line.
 pub fn preview<S: Source, O: Sink>(
     alloc: Global,
     moments: &[Moment],
@@ -60,49 +55,28 @@ fn show<L: Ledger, O: Sink>(
         (O.put_faults out.old) (O.put_faults out.new) }
 {
     let mut steps = Steps::<L>::new(blank);
-    match Resolver::adopt(alloc, snapshot) {
-        Ok(mut resolver) => show_all(alloc, &mut resolver, moments, out, &mut steps),
+    match Display::adopt(alloc, snapshot) {
+        Ok(mut display) => show_all(&mut display, moments, out, &mut steps),
         Err(_) => finish(out, Stop::Memory),
     }
 }
 
 /// Writes the line of each moment, and answers the status.
 fn show_all<L: Ledger, O: Sink>(
-    alloc: Global,
-    resolver: &mut Resolver,
+    display: &mut Display,
     moments: &[Moment],
     out: &mut O,
     steps: &mut Steps<L>,
 ) -> u8
-    ensures { Prints resolver.old.snapshot moments.now result (O.written out.old) (O.written out.new)
+    ensures { Prints display.old moments.now result (O.written out.old) (O.written out.new)
         (O.put_faults out.old) (O.put_faults out.new) }
 {
     for moment in moments {
-        let text = match line_of(alloc, resolver, *moment, steps) {
-            Ok(text) => text,
-            Err(_) => return finish(out, Stop::Memory),
-        };
-        match put_all(out, text.as_str().as_bytes()) {
+        let line = display.line(*moment, steps);
+        match put_all(out, line.as_bytes()) {
             Ok(()) => {}
             Err(_) => return WRITE_FAULT,
         }
     }
     0
-}
-
-/// The line of a moment.
-#[tactic(auto, unfolding(crate::specs::Lines::line_at))]
-fn line_of<L: Ledger>(
-    alloc: Global,
-    resolver: &mut Resolver,
-    moment: Moment,
-    steps: &mut Steps<L>,
-) -> Result<String, AllocError>
-    ensures text { IfOk result (λ t. string_bytes t ≡ line_at resolver.old.snapshot moment) }
-    ensures same { resolver.new.snapshot ≡ resolver.old.snapshot }
-{
-    let t = resolver.local(moment)?;
-    let show = resolver.show_at(t, steps);
-    let picture = resolver.picture(&show);
-    line(alloc, moment, &show, &picture)
 }
