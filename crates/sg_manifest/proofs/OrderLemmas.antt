@@ -1,8 +1,9 @@
 -- Rows whose ids differ have one ascending order.
-use Rattle.std.proofs.Common.{◌≡◌, ℕ, zero, suc, ◌+◌, ◌<◌, ◌≤◌, eqb, false, List, [], ◌∷◌, length, map, get_or, ◌⊎◌, inl, inr, refl, sym, ap, subst, arith}
+use Rattle.std.proofs.Common.{◌≡◌, ℕ, zero, suc, ◌+◌, ◌<◌, ◌≤◌, eqb, false, List, [], ◌∷◌, length, map, drop, drop-cons, add-one, get_or, ◌⊎◌, inl, inr, refl, sym, ap, ◌∙◌, subst, arith}
 use Rattle.std.proofs.lemmas.Bool.Decides.{nat_tests}
 use Rattle.std.proofs.lemmas.Map.Keys.{IsDistinct-head, IsDistinct-tail, IsDistinct-IsPermutation}
 use Rattle.std.proofs.lemmas.List.Sorted.{Contains-permutation, IsPermutation-sym, IsPermutation-trans}
+use Rattle.std.proofs.lemmas.List.{drop_all}
 use Rattle.std.specs.List.{AllByRecursion, IsDistinct, Contains}
 use Rattle.std.specs.List.Sorted.{IsPermutation, IsNonDecreasingBy, IsStrictlyIncreasing}
 use Rattle.sg_base.proofs.DoubleLemmas.{same, same_flips}
@@ -109,3 +110,32 @@ sorted_is key xs ys apart moved up =
     one_order key ys (sorted_by key xs) rises (sorted_rises key xs apart)
     (λ z h. Contains-permutation ys (sorted_by key xs) z across h)
     (λ z h. Contains-permutation (sorted_by key xs) ys z (IsPermutation-sym ys (sorted_by key xs) across) h)
+
+-- ---- rows whose ids ascend from a number on
+
+pub record RisesFrom {A : Type 0} (key : A → ℕ) (least : ℕ) (xs : List A) : Type 0 where
+  pub rises : Rises key xs
+  pub from : AllByRecursion (λ x. least ≤ key x) xs
+
+all_over : {A : Type 0} (key : A → ℕ) (low high : ℕ) (xs : List A) → low ≤ high → AllByRecursion (λ x. high ≤ key x) xs → AllByRecursion (λ x. low ≤ key x) xs
+all_over key low high [] less h = tt
+all_over key low high (x ∷ xs) less h = (omega (arith, less, h.0), all_over key low high xs less h.1)
+
+from_next : {A : Type 0} (key : A → ℕ) (x : A) (xs : List A) (least next : ℕ) → least ≤ key x → next ≡ key x + 1 → RisesFrom key next xs → RisesFrom key least (x ∷ xs)
+from_next key x xs least next low is h = record {
+  rises = (all_over key (suc (key x)) next xs (omega (arith, is)) h.from, h.rises);
+  from = (low, all_over key least next xs (omega (arith, low, is)) h.from);
+}
+
+-- one row more is above those before it
+pub rises_next : {A : Type 0} (key : A → ℕ) (rows : List A) (i : ℕ) (x : A) (least next : ℕ) → i < length rows → x ≡ get_or rows i x → least ≤ key x → next ≡ key x + 1
+    → (RisesFrom key least (drop i rows) → Rises key rows) → RisesFrom key next (drop (i + 1) rows) → Rises key rows
+rises_next key rows i x least next inside e low is before h =
+    let here : drop i rows ≡ x ∷ drop (suc i) rows = drop-cons rows i x inside ∙ ap (λ y. y ∷ drop (suc i) rows) (sym e) in
+    let rest = subst (λ n. RisesFrom key next (drop n rows)) (add-one i) h in
+    before (subst (RisesFrom key least) (sym here) (from_next key x (drop (suc i) rows) least next low is rest))
+
+-- nothing stands after the last row
+pub rises_end : {A : Type 0} (key : A → ℕ) (rows : List A) (i least : ℕ) → length rows ≤ i → (RisesFrom key least (drop i rows) → Rises key rows) → IsDistinct (same key) rows
+rises_end key rows i least over before =
+    distinct_from_rises key rows (before (subst (RisesFrom key least) (sym (drop_all i rows over)) (record { rises = tt; from = tt })))

@@ -21,5 +21,6 @@ mod lists;
 mod naming;
 mod order;
 mod reading;
+mod scanning;
 mod snapshot;
 mod text;

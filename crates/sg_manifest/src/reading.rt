@@ -97,8 +97,22 @@ fn checked(alloc: Global, bytes: &[u8]) -> Result<Snapshot, ManifestFault>
     compared(Snapshot::new(draft.ordered()), bytes)
 }
 
+/// The snapshot that the bytes of a good text say. Other bytes give an error that isn't always their first fault.
+fn scanned(alloc: Global, bytes: &[u8]) -> Result<Snapshot, ManifestFault>
+    ensures { IfOk result (IsManifest bytes.now) }
+{
+    let Some(draft) = Draft::scan(alloc, bytes) else {
+        return Err(ManifestFault::NotJson);
+    };
+    nothing_missing(alloc, &draft)?;
+    short(bytes)?;
+    let snapshot = Snapshot::new(draft.ordered());
+    compared(snapshot, bytes)
+}
+
 /// The snapshot whose canonical text the bytes are. Other bytes give their first fault, in the order of
-/// [`ManifestFault`]. The bytes are parsed once, and compared once with the text while that is written again.
+/// [`ManifestFault`]. A good text is read from the bytes to the rows, and compared with their text while that is written
+/// again. Only other bytes are parsed to JSON, to find their fault.
 pub fn read(alloc: Global, bytes: &[u8]) -> Result<Snapshot, ManifestFault>
     // Which snapshot, or which fault with all its fields. A row's fault inside is never want of memory.
     ensures exact { Gives (λ s. s) result (manifest_at bytes.now) }
@@ -107,7 +121,10 @@ pub fn read(alloc: Global, bytes: &[u8]) -> Result<Snapshot, ManifestFault>
     // The text of each valid snapshot is read, unless memory runs out.
     ensures only { (s : SnapshotRow) → IsManifest bytes.now s → Gives (λ t. t) result (Ok s) }
 {
-    checked(alloc, bytes)
+    match scanned(alloc, bytes) {
+        Ok(snapshot) => Ok(snapshot),
+        Err(_) => checked(alloc, bytes),
+    }
 }
 
 /// No two valid snapshots have one text. It does nothing when it runs; its clause is the law.
