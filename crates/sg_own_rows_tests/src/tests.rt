@@ -57,11 +57,11 @@ fn region(alloc: Global, id: u32, first: u32, count: u32) -> Result<Region, Allo
     })
 }
 
-// A layout that shows one medium.
-fn layout(alloc: Global, id: u32, media: u32) -> Result<Option<Row>, AllocError>
-    requires { media < 65535 }
+// A layout that shows media in turn.
+fn layout(alloc: Global, id: u32, first: u32, count: u32) -> Result<Option<Row>, AllocError>
+    requires { first + count < 65536 }
 {
-    let regions = Vec::from_array(alloc, [region(alloc, 1, media, 1)?])?;
+    let regions = Vec::from_array(alloc, [region(alloc, 1, first, count)?])?;
     Ok(Layout::new(LayoutId(id), regions).ok().map(Row::Layout))
 }
 
@@ -118,7 +118,7 @@ fn named(daypart: u32) -> When {
 fn rows_that_events_name(alloc: Global, tables: &mut Tables) -> Result<(), Fail> {
     for id in 1..=6 {
         insert_medium(tables, 10 + id)?;
-        insert(tables, layout(alloc, id, 10 + id)?)?;
+        insert(tables, layout(alloc, id, 10 + id, 1)?)?;
     }
     let layouts = Vec::from_slice(alloc, &[LayoutId(4), LayoutId(5)])?;
     let campaign = Campaign {
@@ -256,16 +256,21 @@ fn more_files_than_a_manifest_may_have_are_too_large(rt: HostRuntime) -> Result<
     for id in 1..=513 {
         insert_medium(&mut tables, id)?;
     }
-    let mut regions = Vec::new(alloc);
-    for id in 0..9 {
-        regions.push(region(alloc, id + 1, 57 * id + 1, 57)?)?;
+    let mut layouts = Vec::new(alloc);
+    for id in 1..=9 {
+        insert(&mut tables, layout(alloc, id, 57 * id - 56, 57)?)?;
+        layouts.push(LayoutId(id))?;
     }
-    insert(
-        &mut tables,
-        Layout::new(LayoutId(1), regions).ok().map(Row::Layout),
-    )?;
+    let campaign = Campaign {
+        id: CampaignId(1),
+        layouts: Rows::from_vec(layouts),
+    };
+    insert(&mut tables, Some(Row::Campaign(campaign)))?;
     let row = display(alloc, 1, 1, &[])?;
     insert(&mut tables, Some(row))?;
+    let target = Target::Campaign(CampaignId(1));
+    let all = event(alloc, 1, target, When::Always, &[DisplayId(1)], &[])?;
+    insert(&mut tables, all)?;
     let own = own_rows(alloc, &tables, DisplayId(1))?;
     let is_large = match own {
         Own::TooLarge { name, count } => name == LimitName::Files && count == 513,
