@@ -1,6 +1,7 @@
 -- The JSON of a valid row of an edit reads as the row.
-use Rattle.std.proofs.Common.{◌≡◌, ◌≢◌, ◌+◌, ◌==◌, Bool, true, false, List, [], ◌∷◌, length, Option, Some, None, Ok, refl, lt-ltb, eqb-true, arith}
+use Rattle.std.proofs.Common.{◌≡◌, ◌≢◌, ◌+◌, ◌==◌, Bool, true, false, List, [], ◌∷◌, length, Option, Some, None, Ok, refl, lt-ltb, eqb-true, arith, not}
 use Rattle.std.specs.Prelude.{if◌then◌else◌}
+use Rattle.std.proofs.lemmas.Bool.{and_parts}
 use Rattle.serde_json.specs.Data.{Data, Members}
 use Rattle.std.specs.List.{AllByRecursion}
 use Rattle.sg_base.specs.declared.ids.GroupId.{GroupId}
@@ -15,11 +16,11 @@ use Rattle.sg_base.specs.declared.row.EventRow.{EventRow}
 use Rattle.sg_rows.specs.Text.{list_of, undated_json, flat_members, layered_members, event_json}
 use Rattle.sg_rows.specs.Ids.{IsGroup, IsDisplayId, group_id_json, group_id_at, display_id_json, display_id_at}
 use Rattle.sg_edit_rows.specs.EditRows.{IsDisplay, IsScheduled, IsRow, AreFew, few_at, group_json, group_at, display_json, display_at, IsListedEvent, IsEventIn, listed_at, event_row_json, event_row_at, scheduled_members, scheduled_json, scheduled_at, row_json, row_at}
-use Rattle.sg_edit_rows.specs.Older.{is_older_event, older_scheduled_json, older_json}
+use Rattle.sg_edit_rows.specs.Older.{is_by_month_weekday, is_older_event, older_scheduled_json, older_json}
 use Rattle.sg_base.specs.Daypart.{DaypartRow}
 use Rattle.sg_base.specs.Rows.{kind_of}
 use Rattle.sg_rows.proofs.AgainRows.{list_again, id_again, layout_again, file_again}
-use Rattle.sg_rows.proofs.AgainSchedules.{HasMembers, campaign_again, daypart_again, older_daypart_again, zone_again, parts_again, layer_again, layer_not_later, made_event_again, event_again}
+use Rattle.sg_rows.proofs.AgainSchedules.{HasMembers, campaign_again, daypart_again, older_daypart_again, zone_again, parts_again, layer_again, made_event_again, event_again}
 
 group_id_again : (g : GroupId) → IsGroup g → group_id_at (group_id_json g) ≡ Ok g
 unfolding group_id_at
@@ -48,7 +49,7 @@ display_again d h =
 
 members_scheduled : (e : EventRow) → IsEventRow Edit e.event → HasMembers Edit e.event (scheduled_json e)
 members_scheduled e h = record {
-  now = layer_not_later Edit e.event.layer h.layer;
+  now = refl;
   all = refl;
   id = refl;
   layer = layer_again Edit e.event.layer h.layer;
@@ -60,13 +61,13 @@ members_scheduled e h = record {
   when = refl;
 }
 
--- without its layer
-members_older : (e : EventRow) → IsEventRow Edit e.event → HasMembers Edit e.event (older_scheduled_json e)
-members_older e h = record {
+-- without its layer, where that is the picture's
+members_older : (e : EventRow) → IsEventRow Edit e.event → e.event.layer ≡ 0 → HasMembers Edit e.event (older_scheduled_json e)
+members_older e h flat = record {
   now = refl;
   all = refl;
   id = refl;
-  layer = rw h.layer refl;
+  layer = rw flat refl;
   order = refl;
   priority = refl;
   repeat = refl;
@@ -90,8 +91,8 @@ for_again e ms h own =
 scheduled_again : (e : EventRow) → IsScheduled e → scheduled_at (scheduled_json e) ≡ Ok e
 scheduled_again e h = for_again e (layered_members e.event) h (members_scheduled e h.event)
 
-older_again : (e : EventRow) → IsScheduled e → scheduled_at (older_scheduled_json e) ≡ Ok e
-older_again e h = for_again e (flat_members e.event) h (members_older e h.event)
+older_again : (e : EventRow) → IsScheduled e → e.event.layer ≡ 0 → scheduled_at (older_scheduled_json e) ≡ Ok e
+older_again e h flat = for_again e (flat_members e.event) h (members_older e h.event flat)
 
 -- ---- events in each form
 
@@ -145,4 +146,4 @@ older_row_again (row.Group g) json h e = absurd (cc)
 older_row_again (row.Display d) json h e = absurd (cc)
 older_row_again (row.Event x) json h e =
     let is = json_if (is_older_event x.event) (older_scheduled_json x) json e in
-    rw (← is.1, older_again x h) refl
+    rw (← is.1, older_again x h (eqb-true x.event.layer 0 (and_parts (x.event.layer == 0) (not (is_by_month_weekday x.event.repeat)) is.0).0)) refl

@@ -299,9 +299,12 @@ const EVENTS: [(&str, RowFault); 11] = [
         r#"{"displays":[1],"groups":[],"id":2,"order":65536,"priority":0,"repeat":{"days":[],"every":1,"unit":"day","until":null},"share":0,"target":{"layout":4},"when":{"from":0,"to":1}}"#,
         RowFault::Event(EventFault::BigNumber),
     ),
-    // The layer above the picture is a later version's, and comes before the form of all else.
-    (r#"{"layer":1}"#, RowFault::Later),
-    (r#"{"layer":2}"#, RowFault::Shape),
+    // An overlay shows a layout, and has no share.
+    (
+        r#"{"displays":[1],"groups":[],"id":2,"layer":1,"order":3,"priority":0,"repeat":null,"share":1,"target":{"layout":4},"when":{"always":true}}"#,
+        RowFault::Event(EventFault::OverlayForm),
+    ),
+    (r#"{"layer":1}"#, RowFault::Shape),
     (
         r#"{"displays":[1],"groups":[],"id":2,"layer":2,"order":3,"priority":0,"repeat":null,"share":0,"target":{"layout":4},"when":{"always":true}}"#,
         RowFault::Event(EventFault::BadLayer),
@@ -400,6 +403,6 @@ fn what_version_1_cannot_say_is_later(rt: HostRuntime) -> Result<(), Fail> {
         RowForm::Version2,
         dated.as_slice(),
     )?;
-    let flat = [(FLAT, RowFault::Shape), (r#"{"layer":1}"#, RowFault::Later)];
+    let flat = [(FLAT, RowFault::Shape), (r#"{"layer":1}"#, RowFault::Shape)];
     refuse(&rt, alloc, Kind::Event, RowForm::Version2, flat.as_slice())
 }

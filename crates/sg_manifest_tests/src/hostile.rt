@@ -393,10 +393,10 @@ const DATES: &str = r#"
 /// The layer of an event, or a repeat by the weekday of the month.
 const LAYERS: &str = r#"
 "id":1,"layer":0, -> "id":1, => BadField { list: 5, index: 0, fault: Shape }
-"id":1,"layer":0 -> "id":1,"layer":1 => BadField { list: 5, index: 0, fault: Later }
-"id":1,"layer":0 -> "id":0,"layer":1 => BadField { list: 5, index: 0, fault: Later }
-"id":1,"layer":0 -> "id":1,"colour":0,"layer":1 => BadField { list: 5, index: 0, fault: Later }
-"id":2,"layer":0 -> "id":2,"layer":1 => BadField { list: 5, index: 1, fault: Later }
+"id":1,"layer":0 -> "id":1,"layer":1 ; "share":0 -> "share":1 => BadField { list: 5, index: 0, fault: Event(OverlayForm) }
+"id":1,"layer":0 -> "id":0,"layer":1 => BadField { list: 5, index: 0, fault: Shape }
+"id":1,"layer":0 -> "id":1,"colour":0,"layer":1 => BadField { list: 5, index: 0, fault: Shape }
+"id":1,"layer":0 -> "id":1,"layer":1 ; "target":{"layout":1} -> "target":{"campaign":1} => BadField { list: 5, index: 0, fault: Event(OverlayForm) }
 "id":1,"layer":0 -> "id":1,"layer":2 => BadField { list: 5, index: 0, fault: Event(BadLayer) }
 "id":1,"layer":0 -> "id":1,"layer":4294967295 => BadField { list: 5, index: 0, fault: Event(BadLayer) }
 "id":1,"layer":0 -> "id":1,"layer":2 ; "order":0 -> "order":65536 => BadField { list: 5, index: 0, fault: Event(BigNumber) }

@@ -21,12 +21,13 @@ use Rattle.sg_base.specs.Repeat.{RepeatRow, IsRepeat}
 use Rattle.sg_base.specs.Event.{EventValue}
 use Rattle.sg_rows.specs.declared.form.RowForm.{RowForm}
 use Rattle.sg_rows.specs.declared.form.RowForm.TheVariants.{Version1, Version2, Edit}
-use Rattle.sg_rows.specs.Forms.{has_new, new_member_at, with_new, event_members, is_later_daypart, is_later_repeat, is_later_layer, is_later_event, AllowsUnit, AllowsLayer}
+use Rattle.sg_rows.specs.Forms.{has_new, new_member_at, with_new, event_members, is_later_daypart, is_later_repeat, is_later_event, AllowsUnit, AllowsLayer}
 use Rattle.sg_rows.specs.Zone.{IsZone}
 use Rattle.sg_rows.specs.Rows.{IsLayoutId, IsCampaignRow, IsException, IsDate, IsDaypartRow, IsTarget, IsWhen, IsRepeatRow, IsEventRow}
 use Rattle.sg_rows.specs.Text.{layout_id_json, campaign_json, whole, exception_json, date_json, undated_json, dated_json, daypart_json, unit_text, until_json, repeat_json, target_json, when_json, event_json, zone_json}
 use Rattle.sg_rows.specs.Parts.{exactly, number_at, nullable_at}
 use Rattle.sg_rows.specs.Reading.{layout_id_at, some_layouts, campaign_at, window_at, exception_at, date_at, daypart_at, unit_at, repeat_at, target_at, custom_at, named_at, when_at, parts_at, made_repeat, made_event, event_at, rule_at, zone_at}
+use Rattle.sg_rows.proofs.FormLemmas.{small_layer}
 use Rattle.sg_rows.proofs.ZoneLemmas.{minutes_of_zone, telling_again}
 use Rattle.sg_rows.proofs.DayLemmas.{days_again}
 use Rattle.sg_rows.proofs.OrderLemmas.{sorted_again, rises_from_ascends}
@@ -193,12 +194,9 @@ parts_again form e d h m =
       when_again e.when h.when,
     ) refl
 
--- a layer that a form allows is read, and is no later one
+-- a layer that a form allows is read
 pub layer_again : (form : RowForm) (layer : ℕ) → AllowsLayer form layer → number_at (whole layer) ≡ Ok layer
-layer_again form layer h = rw h refl
-
-pub layer_not_later : (form : RowForm) (layer : ℕ) → AllowsLayer form layer → is_later_layer (whole layer) ≡ false
-layer_not_later form layer h = rw h refl
+layer_again form layer h = rw (lt-ltb layer (2 ^ 32) (omega (arith, small_layer form layer h))) refl
 
 pub made_event_again : (form : RowForm) (e : EventValue) → IsEventRow form e → made_event e ≡ Ok e
 made_event_again form e h = rw (made_repeat_again e.repeat h.accepted.repeats, h.accepted.sound) refl
@@ -220,7 +218,7 @@ members_flat e h = record {
 
 members_layered : (e : EventValue) → IsEventRow Version2 e → HasMembers Version2 e (event_json Version2 e)
 members_layered e h = record {
-  now = layer_not_later Version2 e.layer h.layer;
+  now = refl;
   all = refl;
   id = refl;
   layer = layer_again Version2 e.layer h.layer;

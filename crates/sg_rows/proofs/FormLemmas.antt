@@ -1,6 +1,6 @@
 -- What a form allows of a row that was read.
-use Rattle.std.proofs.Common.{◌≡◌, ◌≢◌, ℕ, ◌^◌, ◌==◌, nat_lt, Bool, true, false, List, [], Option, Some, None, Result, Ok, refl, ◌∙◌}
-use Rattle.std.proofs.lemmas.Bool.{eqb-false}
+use Rattle.std.proofs.Common.{◌≡◌, ◌≢◌, ◌≤◌, arith, ℕ, ◌^◌, ◌==◌, nat_lt, Bool, true, false, List, [], Option, Some, None, Result, Ok, Err, refl, sym, ◌∙◌, eqb-true}
+use Rattle.std.proofs.lemmas.Bool.{eqb-false, ltb-false}
 use Rattle.std.specs.Prelude.{IfSome, codes, if◌then◌else◌, is_some, unwrap_or, option_map, option_and_then}
 use Rattle.std.specs.Str.{bytes_eq}
 use Rattle.serde_json.specs.Data.{Data}
@@ -16,8 +16,8 @@ use Rattle.sg_rows.specs.declared.fault.RowFault.{RowFault}
 use Rattle.sg_rows.specs.declared.fault.RowFault.TheVariants.{Shape}
 use Rattle.sg_rows.specs.Faults.{◌>>=◌, wants}
 use Rattle.sg_rows.specs.Order.{sorted_by}
-use Rattle.sg_rows.specs.Parts.{exactly, member_at, number_at, nullable_at, null_or, below}
-use Rattle.sg_rows.specs.Forms.{has_new, new_member_at, AllowsDates, AllowsUnit, is_month_weekday, is_later_repeat, is_later_layer, is_later_event}
+use Rattle.sg_rows.specs.Parts.{exactly, member_at, number_at, nullable_at, null_or, text_at, below}
+use Rattle.sg_rows.specs.Forms.{has_new, new_member_at, AllowsDates, AllowsUnit, is_month_weekday, is_later_repeat, is_later_event, AllowsLayer}
 use Rattle.sg_rows.specs.Reading.{days_at, unit_of, unit_at, repeat_at}
 use Rattle.sg_rows.proofs.BindLemmas.{bind_ok}
 
@@ -40,33 +40,20 @@ sorted_dates Edit ds e = tt
 
 -- ---- the layer
 
-one_layer : (m n : ℕ) (b : Bool) → (m == MAX_LAYER) ≡ false → nat_lt m (2 ^ 32) ≡ b → wants (if b then Some m else None) Shape ≡ Ok n → n ≢ MAX_LAYER
-one_layer m n true other e is = λ same. eqb-false m MAX_LAYER other (ok_number m n is ∙ same)
+-- version 1 reads no layer
+pub layer_now : (form : RowForm) (d : Data) (n : ℕ) → new_member_at form number_at 0 (codes "layer") d ≡ Ok n → form ≡ Version1 → n ≡ 0
+layer_now Version1 d n is first = zero is
   where
-    ok_number : (m n : ℕ) → ◌≡◌ {A = Result ℕ RowFault} (Ok m) (Ok n) → m ≡ n
-    ok_number m n e = cc
-one_layer m n false other e is = absurd (cc)
+    zero : ◌≡◌ {A = Result ℕ RowFault} (Ok 0) (Ok n) → n ≡ 0
+    zero e = cc
+layer_now Version2 d n is first = absurd (cc)
+layer_now Edit d n is first = absurd (cc)
 
-number_layer : (o : Option ℕ) (n : ℕ) → unwrap_or (option_map (λ k. k == MAX_LAYER) o) false ≡ false → wants (option_and_then (below (2 ^ 32)) o) Shape ≡ Ok n → n ≢ MAX_LAYER
-number_layer None n other is = absurd (cc)
-number_layer (Some m) n other is = one_layer m n (nat_lt m (2 ^ 32)) other refl is
-
-member_layer : (o : Option Data) (n : ℕ) → unwrap_or (option_map is_later_layer o) false ≡ false → (wants o Shape >>= number_at) ≡ Ok n → n ≢ MAX_LAYER
-member_layer None n other is = absurd (cc)
-member_layer (Some v) n other is = number_layer (option_and_then as_u64 (as_number v)) n other is
-
-zero_layer : (n : ℕ) → ◌≡◌ {A = Result ℕ RowFault} (Ok 0) (Ok n) → n ≢ MAX_LAYER
-zero_layer n is same = absurd (let zero : 0 ≡ n = cc in let one : n ≡ 1 = same in cc)
-
-any_layer : (o : Option Data) (n : ℕ) → unwrap_or (option_map is_later_layer o) false ≡ false → (if is_some o then (wants o Shape >>= number_at) else Ok 0) ≡ Ok n → n ≢ MAX_LAYER
-any_layer None n other is = zero_layer n is
-any_layer (Some v) n other is = member_layer (Some v) n other is
-
--- a layer that was read isn't a later version's
-pub layer_now : (form : RowForm) (d : Data) (n : ℕ) → is_later_event form d ≡ false → new_member_at form number_at 0 (codes "layer") d ≡ Ok n → n ≢ MAX_LAYER
-layer_now Version1 d n now is = zero_layer n is
-layer_now Version2 d n now is = member_layer (get (codes "layer") d) n now is
-layer_now Edit d n now is = any_layer (get (codes "layer") d) n now is
+-- a layer that a form allows is one of the two
+pub small_layer : (form : RowForm) (layer : ℕ) → AllowsLayer form layer → layer ≤ MAX_LAYER
+small_layer Version1 layer h = omega (arith, h)
+small_layer Version2 layer h = h
+small_layer Edit layer h = h
 
 -- ---- the unit of a repeat
 

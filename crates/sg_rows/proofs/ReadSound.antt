@@ -47,7 +47,7 @@ use Rattle.sg_rows.proofs.RowLemmas.{regions_have_ids}
 use Rattle.sg_rows.proofs.OrderLemmas.{Rises, all_sorted, sorted_rises, sorted_moves}
 use Rattle.sg_rows.proofs.DaypartLemmas.{exceptions_apart, dates_apart}
 use Rattle.sg_rows.proofs.FormLemmas.{some_dates, no_dates, sorted_dates, layer_now, unit_now}
-use Rattle.sg_rows.proofs.EventLemmas.{layer_zero}
+use Rattle.sg_rows.proofs.EventLemmas.{layer_allowed}
 use Rattle.sg_rows.proofs.DayLemmas.{bit_at, bit_low}
 
 -- ---- parts
@@ -424,7 +424,7 @@ parts_valid form d p e =
     let small = λ (name : List ℕ) (n : ℕ) (read : member_at number_at name d ≡ Ok n). member_valid number_at (λ n. n < 2 ^ 32) number_valid name d n read in
     subst (IsEventParts form) (ok_is (record { id = record { 0 = id.0 }; layer = layer.0; target = target.0; when = w.0; repeat = repeat.0; order = order.0; priority = priority.0; share = share.0 }) p w.2) (record {
       id = member_valid id_at IsId id_valid (codes "id") d id.0 id.1;
-      layer = layer_now form d layer.0 known layer.1;
+      layer = layer_now form d layer.0 layer.1;
       target = member_valid target_at IsTarget target_valid (codes "target") d target.0 target.1;
       when = member_valid when_at IsWhen when_valid (codes "when") d w.0 w.1;
       repeat = member_valid (nullable_at repeat_at) (λ o. IfSome o IsRepeatRow) (nullable_valid repeat_at IsRepeatRow repeat_valid) (codes "repeat") d repeat.0 repeat.1;
@@ -451,7 +451,7 @@ event_valid form d x e =
     let made = faultless_ok fault.Event (event_fault p.layer p.target p.when repeat.0 p.order p.priority p.share) (record { id = p.id; layer = p.layer; target = p.target; when = p.when; repeat = repeat.0; order = p.order; priority = p.priority; share = p.share }) x repeat.2 in
     subst (IsEventRow form) made.1 (record {
       id = valid.id;
-      layer = layer_zero p.layer p.target p.when repeat.0 p.order p.priority p.share made.0 valid.layer;
+      layer = layer_allowed form p.layer p.target p.when repeat.0 p.order p.priority p.share made.0 valid.layer;
       target = valid.target;
       when = valid.when;
       repeat = rw (← same.0) valid.repeat;

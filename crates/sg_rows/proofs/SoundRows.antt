@@ -30,6 +30,7 @@ use Rattle.sg_base.specs.Event.{EventValue}
 use Rattle.sg_rows.specs.declared.form.RowForm.{RowForm}
 use Rattle.sg_rows.specs.declared.form.RowForm.TheVariants.{Version1, Version2, Edit}
 use Rattle.sg_rows.specs.Forms.{AllowsLayer}
+use Rattle.sg_rows.proofs.FormLemmas.{small_layer}
 use Rattle.sg_rows.specs.Zone.{IsZone}
 use Rattle.sg_rows.specs.Rows.{IsId, IsItem, IsRegion, IsLayoutRow, IsLayoutId, IsCampaignRow, IsException, IsDate, IsDaypartRow, IsTarget, IsWhen, IsRepeatRow, IsEventRow, IsListed}
 use Rattle.sg_rows.specs.Text.{whole, item_json, region_json, layout_json, layout_id_json, campaign_json, exception_json, date_json, undated_json, dated_json, daypart_json, weekdays, unit_text, until_json, repeat_json, target_json, when_json, last_members, flat_members, layered_members, event_json, file_json, zone_json}
@@ -144,7 +145,7 @@ last_sound form e h = (
 )
 
 pub layer_sound : (form : RowForm) (layer : ℕ) → AllowsLayer form layer → Sound 4 (whole layer)
-layer_sound form layer h = number_sound layer (omega (arith, h))
+layer_sound form layer h = number_sound layer (omega (arith, small_layer form layer h))
 
 flat_sound : (form : RowForm) (e : EventValue) → IsEventRow form e → Sound 5 (object (flat_members e))
 flat_sound form e h = Sound-object refl (id_sound _ h.id, last_sound form e h)

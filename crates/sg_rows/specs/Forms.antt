@@ -1,6 +1,6 @@
 -- The forms in which a row stands, and what they differ in. Version 2 brought the dates of a daypart, the weekday of the
 -- month, and the layer of an event. An edit may leave out the dates and the layer.
-use Rattle.std.specs.Prelude.{◌≡◌, ◌≢◌, ℕ, ◌+◌, ◌==◌, Bool, true, false, List, [], codes, if◌then◌else◌, unwrap_or, option_map, option_and_then, Result, Ok}
+use Rattle.std.specs.Prelude.{◌≤◌, ◌≡◌, ◌≢◌, ℕ, ◌+◌, ◌==◌, Bool, true, false, List, [], codes, if◌then◌else◌, unwrap_or, option_map, option_and_then, Result, Ok}
 use Rattle.std.specs.Str.{bytes_eq}
 use Rattle.serde_json.specs.Data.{Data}
 use Rattle.serde_json.specs.Find.{get, as_str, as_number, as_u64}
@@ -53,14 +53,11 @@ is_month_weekday d = unwrap_or (option_map (λ name. bytes_eq name (codes "month
 abbrev pub is_later_repeat : Data → Bool
 is_later_repeat d = member_is is_month_weekday (codes "unit") d
 
--- the layer above the picture, which no form has yet
-abbrev pub is_later_layer : Data → Bool
-is_later_layer d = unwrap_or (option_map (λ n. n == MAX_LAYER) (option_and_then as_u64 (as_number d))) false
-
+-- the same of an event's repeat
 abbrev pub is_later_event : RowForm → Data → Bool
 is_later_event Version1 d = member_is is_later_repeat (codes "repeat") d
-is_later_event Version2 d = member_is is_later_layer (codes "layer") d
-is_later_event Edit d = member_is is_later_layer (codes "layer") d
+is_later_event Version2 d = false
+is_later_event Edit d = false
 
 -- ---- which rows a form can say
 
@@ -76,6 +73,8 @@ AllowsUnit Version1 unit = unit ≢ MonthWeekday
 AllowsUnit Version2 unit = Unit {0}
 AllowsUnit Edit unit = Unit {0}
 
--- no form has a layer above the picture yet
+-- version 1 has no layer above the picture
 abbrev pub AllowsLayer : RowForm → ℕ → Type 0
-AllowsLayer form layer = layer ≡ 0
+AllowsLayer Version1 layer = layer ≡ 0
+AllowsLayer Version2 layer = layer ≤ MAX_LAYER
+AllowsLayer Edit layer = layer ≤ MAX_LAYER

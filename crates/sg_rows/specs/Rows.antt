@@ -19,6 +19,7 @@ use Rattle.sg_base.specs.Daypart.{DaypartRow, IsDaypart}
 use Rattle.sg_base.specs.Repeat.{RepeatRow}
 use Rattle.sg_base.specs.Event.{EventValue, IsEvent}
 use Rattle.sg_rows.specs.declared.form.RowForm.{RowForm}
+use Rattle.sg_rows.specs.declared.form.RowForm.TheVariants.{Version1}
 use Rattle.sg_rows.specs.Forms.{AllowsDates, AllowsUnit, AllowsLayer}
 
 -- an id of a row is at least 1 and has 32 bits
@@ -86,10 +87,10 @@ pub record IsRepeatRow (r : RepeatRow) : Type 0 where
   pub days : r.days < 2 ^ 7
   pub until : IfSome r.until (λ day. day < 2 ^ 32)
 
--- for private clauses: the numbers of an event fit, its repeat's too, and its layer is no later one
+-- for private clauses: the numbers of an event fit, its repeat's too, and version 1 gives it no layer
 pub record IsEventParts (form : RowForm) (e : EventValue) : Type 0 where
   pub id : IsId e.id.0
-  pub layer : e.layer ≢ MAX_LAYER
+  pub layer : form ≡ Version1 → e.layer ≡ 0
   pub target : IsTarget e.target
   pub when : IsWhen e.when
   pub repeat : IfSome e.repeat IsRepeatRow

@@ -4,7 +4,7 @@ ghost use Rattle.std.specs.Prelude.{◌≡◌, true, false, IfOk, OnOk, not, cod
 ghost use Rattle.serde_json.specs.View.{view};
 ghost use Rattle.sg_rows.specs.Text.{target_json, when_json, event_json, last_members};
 ghost use Rattle.sg_rows.specs.Written.{Takes, text_before, members_before};
-ghost use Rattle.sg_rows.specs.Forms.{event_members, is_later_layer, is_later_event, new_member_at, with_new};
+ghost use Rattle.sg_rows.specs.Forms.{event_members, is_later_event, new_member_at, with_new};
 ghost use Rattle.sg_rows.specs.declared.form.RowForm.TheVariants.{Version1, Version2};
 ghost use Rattle.sg_rows.specs.Faults.{Gives, needs};
 ghost use Rattle.sg_rows.specs.Rows.{IsTarget, IsWhen, IsEventParts, IsEventRow};
@@ -20,7 +20,6 @@ use crate::repeat::{RepeatParts, is_later, made_repeat, put_repeat, read_repeat,
 use crate::row::ManifestRow;
 use crate::writing::put_number;
 use serde_json::{Value, json};
-use sg_base::limits::MAX_LAYER;
 use sg_base::{CampaignId, DaypartId, Event, EventId, LayoutId, Target, When};
 use std::alloc::{AllocError, Global};
 use std::marker::Model;
@@ -140,16 +139,6 @@ impl Model for EventParts {
     ghost inverse = { λ e. record { id = e.id; layer = e.layer; target = e.target; when = e.when; repeat = e.repeat; order = e.order; priority = e.priority; share = e.share } };
 }
 
-/// Whether the layer is a later version's: that above the picture.
-fn is_later_layer(value: &Value) -> bool
-    ensures { result ≡ is_later_layer (view value.now) }
-{
-    match value.as_u64() {
-        Some(layer) => layer == u64::from(MAX_LAYER),
-        None => false,
-    }
-}
-
 /// Whether an event says what only a later version than its form can.
 fn is_later_event(form: RowForm, value: &Value) -> bool
     ensures { result ≡ is_later_event form (view value.now) }
@@ -159,10 +148,7 @@ fn is_later_event(form: RowForm, value: &Value) -> bool
             Some(repeat) => is_later(repeat),
             None => false,
         },
-        RowForm::Version2 | RowForm::Edit => match value.get("layer") {
-            Some(layer) => is_later_layer(layer),
-            None => false,
-        },
+        RowForm::Version2 | RowForm::Edit => false,
     }
 }
 
@@ -232,7 +218,7 @@ pub fn read_event_parts(form: RowForm, value: &Value) -> Result<EventParts, RowF
 }
 
 /// The event that values make. The fault of its repeat comes before its own.
-#[tactic(auto, using(crate::proofs::EventLemmas::layer_zero))]
+#[tactic(auto, using(crate::proofs::EventLemmas::layer_allowed))]
 pub fn make_event(form: RowForm, parts: EventParts) -> Result<Event, RowFault>
     requires { IsEventParts form parts }
     ensures gives { Gives (λ e. e) result (made_event parts) }

@@ -7,6 +7,7 @@ ghost use Rattle.sg_rows.specs.Rows.{IsTarget, IsWhen};
 use crate::list::ScanRow;
 use crate::repeat::scan_repeat;
 use crate::scan::Scan;
+use sg_base::limits::MAX_LAYER;
 use sg_base::{CampaignId, DaypartId, Event, EventId, LayoutId, Target, When};
 use sg_rows::RowForm;
 use std::alloc::Global;
@@ -45,15 +46,19 @@ fn when(text: &mut Scan) -> Option<When>
     })
 }
 
-/// The layer, of which version 1 says nothing. A scan leaves a layer above the picture to who names its fault.
+/// The layer, of which version 1 says nothing.
 fn layer(form: RowForm, text: &mut Scan) -> Option<u32>
     ensures { IfSome result (AllowsLayer form) }
 {
     match form {
         RowForm::Version1 => Some(0),
         RowForm::Version2 | RowForm::Edit => {
-            text.pass(b",\"layer\":0")?;
-            Some(0)
+            let layer = text.number_after(b",\"layer\":")?;
+            if layer <= MAX_LAYER {
+                Some(layer)
+            } else {
+                None
+            }
         }
     }
 }

@@ -140,6 +140,7 @@ fn repeats(rt: HostRuntime) -> Result<(), Fail> {
 #[test]
 fn layers(rt: HostRuntime) -> Result<(), Fail> {
     assert_eq!(rt; is_read(rt.alloc(), "0", "null", LAYOUT, ALWAYS)?, true);
+    assert_eq!(rt; is_read(rt.alloc(), "1", "null", LAYOUT, ALWAYS)?, true);
     assert_eq!(rt; is_read(rt.alloc(), "2", "null", LAYOUT, ALWAYS)?, false);
     Ok(())
 }

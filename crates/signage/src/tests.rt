@@ -105,14 +105,17 @@ fn layered(alloc: Global, layer: &str) -> Result<String, Fail> {
 }
 
 #[test]
-fn previews_version_2_without_overlays(rt: HostRuntime) -> Result<(), Fail> {
+fn previews_version_2(rt: HostRuntime) -> Result<(), Fail> {
     let alloc = rt.alloc();
     let plain = PLAIN.replacen(alloc, "\"version\":1", "\"version\":2", 1)?;
     let shown = "0 e5 l1 s0 o0 r1:m1\n3599 e5 l1 s3590 o9 r1:m1\n3600 e5 l1 s3600 o0 r1:m1\n";
+    let above =
+        "0 e0 l1 s0 o0 r1:m1 v5 l1 s0 o0 r1:m1\n3599 e0 l1 s3590 o9 r1:m1 v5 l1 s3590 o9 r1:m1\n3600 e0 l1 s3600 o0 r1:m1 v5 l1 s3600 o0 r1:m1\n";
     for (text, status, output) in [
         (plain, 0, LINES),
         (layered(alloc, "0")?, 0, shown),
-        (layered(alloc, "1")?, 3, BAD_FIELD),
+        (layered(alloc, "1")?, 0, above),
+        (layered(alloc, "2")?, 3, BAD_FIELD),
     ] {
         expect(
             &rt,

@@ -342,3 +342,58 @@ fn more_plays_than_seconds(rt: HostRuntime) -> Result<(), Fail> {
         "0 e1 l1 s0 o0 r1:m1\n63 e1 l64 s63 o0 r1:m1\n64 e2 l1 s64 o0 r1:m1\n3599 e57 l16 s3599 o0 r1:m1\n3600 e1 l1 s3600 o0 r1:m1\n",
     )
 }
+
+/// A manifest of version 2 with layouts of 10, 20 and 30 seconds and these overlays: the id, the order, the priority, the
+/// layout, and the local seconds from which and up to which it is shown.
+fn manifest_with(
+    alloc: Global,
+    overlays: &[(u32, u32, u32, u32, u32, u32)],
+) -> Result<String, Fail> {
+    let mut events = String::new(alloc);
+    for (id, order, priority, layout, from, to) in overlays {
+        if !events.as_str().is_empty() {
+            events.push_str(",")?;
+        }
+        let event = format!(in alloc;
+            "{{\"id\":{id},\"layer\":1,\"order\":{order},\"priority\":{priority},\"repeat\":null,\"share\":0,\"target\":{{\"layout\":{layout}}},\"when\":{{\"from\":{from},\"to\":{to}}}}}"
+        )?;
+        events.push_str(event.as_str())?;
+    }
+    let events = events.as_str();
+    Ok(format!(in alloc;
+        "{{\"campaigns\":[],\"dayparts\":[],\"default\":1,\"events\":[{events}],\"files\":[{FILES}],\"layouts\":[{SHORT}],\"version\":2,\"zone\":{{\"offset\":0}}}}"
+    )?)
+}
+
+#[test]
+fn overlays_are_shown_above_the_picture(rt: HostRuntime) -> Result<(), Fail> {
+    let alloc = rt.alloc();
+    // One overlay in its time.
+    let one = [(4, 0, 0, 2, 1000, 2000)];
+    // Two take turns while both are active, by order before id, and fill 50 seconds together.
+    let two = [(4, 1, 0, 2, 1000, 2000), (6, 0, 0, 3, 1500, 2500)];
+    // The greater priority is shown alone while it is active.
+    let ranked = [(4, 0, 1, 2, 1000, 2000), (6, 0, 2, 3, 1500, 1800)];
+    for (overlays, words, lines) in [
+        (
+            one.as_slice(),
+            "preview 999 1000 1999 2000",
+            "999 e0 l1 s990 o9 r1:m1\n1000 e0 l1 s1000 o0 r1:m1 v4 l2 s1000 o0 r1:m2\n1999 e0 l1 s1990 o9 r1:m1 v4 l2 s1980 o19 r1:m2\n2000 e0 l1 s2000 o0 r1:m1\n",
+        ),
+        (
+            two.as_slice(),
+            "preview 1499 1500 1530 2000 2500",
+            "1499 e0 l1 s1490 o9 r1:m1 v4 l2 s1480 o19 r1:m2\n1500 e0 l1 s1500 o0 r1:m1 v6 l3 s1500 o0 r1:m3\n1530 e0 l1 s1530 o0 r1:m1 v4 l2 s1530 o0 r1:m2\n2000 e0 l1 s2000 o0 r1:m1 v6 l3 s1980 o20 r1:m3\n2500 e0 l1 s2500 o0 r1:m1\n",
+        ),
+        (
+            ranked.as_slice(),
+            "preview 1499 1500 1799 1800",
+            "1499 e0 l1 s1490 o9 r1:m1 v4 l2 s1480 o19 r1:m2\n1500 e0 l1 s1500 o0 r1:m1 v6 l3 s1500 o0 r1:m3\n1799 e0 l1 s1790 o9 r1:m1 v6 l3 s1770 o29 r1:m3\n1800 e0 l1 s1800 o0 r1:m1 v4 l2 s1800 o0 r1:m2\n",
+        ),
+    ] {
+        let manifest = manifest_with(alloc, overlays)?;
+        let source = source_of(alloc, manifest.as_str())?;
+        expect(&rt, alloc, words, source, MemSink::new(alloc), 0, lines)?;
+    }
+    Ok(())
+}
