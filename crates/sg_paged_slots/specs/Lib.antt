@@ -1,1 +1,2 @@
 pub mod PagedDamage
+pub mod Both

@@ -53,8 +53,8 @@ pub fn read_pages(
     }
 }
 
-// Where the map of a slot begins.
-fn place_of_map(room: u64, slot: Slot) -> u64
+/// Where the map of a slot begins.
+pub(crate) fn place_of_map(room: u64, slot: Slot) -> u64
     requires { room ≤ MAX_ROOM }
     ensures { result ≡ map_place room slot }
 {

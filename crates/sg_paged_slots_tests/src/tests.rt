@@ -6,8 +6,8 @@ ghost use Rattle.sg_disk.specs.Contents.{IsRoom};
 
 use sg_base::limits::{MANIFEST_FILES, MAX_ROOM, ROOM_UNIT};
 use sg_base::{Listed, MediaId};
-use sg_disk::{DATA, ENTRY_LEN, TABLE_LEN};
-use sg_paged_slots::{read_files, read_pages};
+use sg_disk::{DATA, ENTRY_LEN, Fuse, MemDisk, TABLE_LEN};
+use sg_paged_slots::{fill_paged_slot, read_files, read_pages};
 use sg_pages::{MAP_ENTRY_LEN, MAP_LEN, MAX_PAGES, PageSet, Shelf, fill_map};
 use sg_placing::Placed;
 use sg_slots::{OpenFault, Slot, fill_table};
@@ -230,5 +230,56 @@ fn the_first_fault_of_a_slot_is_the_answer(rt: HostRuntime) -> Result<(), Fail> 
             .map(|(place, found)| OpenFault::Damaged { place, found });
         assert_eq!(rt; fault_of(rt.alloc(), case)?, wanted, "{}", case.what);
     }
+    Ok(())
+}
+
+// A disk with a data area of 65,536 bytes that has maps.
+const WHOLE_DISK: usize = 8_564_736;
+
+// Slot 1 of an empty disk is filled; a crash is to come after so many calls.
+fn filled(alloc: Global, calls: u64) -> Result<MemDisk, Fail> {
+    let mut bytes = Vec::new(alloc);
+    bytes.resize(WHOLE_DISK, 0)?;
+    let mut disk = MemDisk::new(alloc, bytes)?;
+    disk.set_fuse(Fuse::Crash(calls));
+    let done = fill_paged_slot(
+        &mut disk,
+        ROOM_UNIT,
+        Slot::One,
+        &[1, 2, 3, 4, 5, 6, 7, 8, 9, 10, 11, 12],
+        &[33; 32],
+        b"text",
+        &[7, 0],
+    );
+    if done.is_ok() != (calls >= 5) {
+        return Err(Unmet)?;
+    }
+    Ok(disk)
+}
+
+#[test]
+fn a_slot_is_filled_with_its_map_in_five_calls(rt: HostRuntime) -> Result<(), Fail> {
+    let disk = filled(rt.alloc(), 5)?;
+    assert!(rt; disk.fuse() == Fuse::Crash(0));
+    assert!(rt; filled(rt.alloc(), 4)?.fuse() == Fuse::Crashed);
+    // Where each part begins.
+    let parts: [(usize, &[u8]); 4] = [
+        (1_073_156, &[1, 2, 3, 4, 5, 6, 7, 8, 9, 10, 11, 12]),
+        (1_077_248, &[33; 32]),
+        (1_093_632, b"text"),
+        (6_434_816, &[7, 0]),
+    ];
+    let bytes = disk.bytes();
+    if bytes.len() != WHOLE_DISK {
+        return Err(Unmet)?;
+    }
+    for (place, part) in parts {
+        if place > 7_000_000 || part.len() > 64 {
+            return Err(Unmet)?;
+        }
+        assert_eq!(rt; &bytes[place..place + part.len()], part, "at {place}");
+    }
+    // 12, 32, 4 and 1 of these are no zeros, and nothing else was written.
+    assert_eq!(rt; bytes.iter().filter(|byte| **byte != 0).count(), 49);
     Ok(())
 }

@@ -1,13 +1,16 @@
 -- The bytes of a file that stands in parts: what a write inside one part adds to them, and where a range of them stands.
-use Rattle.std.proofs.Common.{◌≡◌, ℕ, zero, suc, ◌+◌, ◌-◌, ◌*◌, ◌<◌, ◌≤◌, min, List, [], ◌∷◌, ◌++◌, length, get_or, take, drop, refl, sym, ◌∙◌, ap, subst, arith, length-drop, append_assoc}
+use Rattle.std.proofs.Common.{◌≡◌, ℕ, zero, suc, ◌+◌, ◌-◌, ◌*◌, ◌/◌, ◌%◌, ◌<◌, ◌≤◌, min, List, [], ◌∷◌, ◌++◌, length, get_or, take, drop, refl, sym, ◌∙◌, ap, subst, arith, length-drop, append_assoc}
 use Rattle.std.specs.List.{flat_map}
 use Rattle.std.proofs.Math.Seq.{take-append-add}
-use Rattle.std.proofs.lemmas.List.{take-append-le, drop-append-le, drop-drop, drop_at, take-take}
+use Rattle.std.proofs.lemmas.List.{take-append-le, drop-append-le, drop-drop, drop_at, take-take, length-take-le}
 use Rattle.sg_disk.specs.View.{range}
-use Rattle.sg_disk.specs.Contents.{Segment, parts_of}
+use Rattle.sg_disk.specs.Contents.{Segment, Stand, parts_of, parts_at}
+use Rattle.sg_disk.specs.Contents.{Extent, Pages}
 use Rattle.sg_disk.specs.declared.places.TheConstants.{DATA, PAGE}
 use Rattle.sg_disk.proofs.Ranges.{range-range, length-range}
 use Rattle.sg_disk.proofs.Parts.{range_more}
+use Rattle.sg_pages.specs.Pages.{needed}
+use Rattle.sg_pages.specs.Shelves.{byte_place}
 
 -- the bytes of these parts, one behind another
 abbrev pub bytes_of : List ℕ → List Segment → List ℕ
@@ -99,3 +102,24 @@ size_of_pages n [] le = refl
 size_of_pages n (page ∷ pages) le =
     let rest : size_of (parts_of (n - PAGE) pages) ≡ PAGE * length pages = size_of_pages (n - PAGE) pages (omega (arith, le)) in
     omega (arith, rest, le)
+
+-- A range of a file that lies in one page, or in the file's range, stands on the disk from the place of its first byte on
+pub range_of_file : (c : List ℕ) (n : ℕ) (stand : Stand) (offset m : ℕ) → ((pages : List ℕ) → stand ≡ Pages pages → length pages ≡ needed n) → AreWithin (length c) (parts_at n stand) → 0 < m → offset + m ≤ n → ((pages : List ℕ) → stand ≡ Pages pages → offset % PAGE + m ≤ PAGE) → range (bytes_of c (parts_at n stand)) offset m ≡ range c (byte_place stand offset) m
+range_of_file c n (Extent place) offset m enough within some fits row =
+    let at : 0 + offset ≡ offset = omega arith in
+    ap (λ (k : ℕ). range (bytes_of c (record { place = place; size = n } ∷ [])) k m) (sym at) ∙ range_of_part c [] (record { place = place; size = n }) [] offset m within (omega (arith, fits))
+range_of_file c n (Pages pages) offset m enough within some fits row =
+    let i : ℕ = offset / PAGE in
+    let r : ℕ = offset % PAGE in
+    let whole : offset ≡ PAGE * i + r = omega arith in
+    let lt : i < length pages = grind (arith, enough pages refl, fits, some) in
+    let s : Segment = record { place = DATA + PAGE * get_or pages i 0; size = min (n - PAGE * i) PAGE } in
+    let before : List Segment = parts_of n (take i pages) in
+    let behind : List Segment = parts_of (n - PAGE * suc i) (drop (suc i) pages) in
+    let split : parts_of n pages ≡ before ++ s ∷ behind = parts_split n i pages 0 lt in
+    let front : length (take i pages) ≡ i = length-take-le i pages (omega (arith, lt)) in
+    let size : size_of before ≡ PAGE * i = size_of_pages n (take i pages) (omega (arith, front, whole, fits)) ∙ ap (λ (k : ℕ). PAGE * k) front in
+    let at : offset ≡ size_of before + r = omega (arith, whole, size) in
+    ap (λ (l : List Segment). range (bytes_of c l) offset m) split
+    ∙ ap (λ (k : ℕ). range (bytes_of c (before ++ s ∷ behind)) k m) at
+    ∙ range_of_part c before s behind r m (subst (AreWithin (length c)) split within) (omega (arith, row pages refl, whole, fits))

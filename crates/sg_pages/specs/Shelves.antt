@@ -1,9 +1,10 @@
 -- Files on a shelf, and where each stands.
-use Rattle.std.specs.Prelude.{◌≡◌, ◌≢◌, ℕ, ◌==◌, List, [], ◌∷◌, length, take, drop, sum_by, if◌then◌else◌}
+use Rattle.std.specs.Prelude.{◌≡◌, ◌≢◌, ℕ, ◌+◌, ◌*◌, ◌/◌, ◌%◌, slice_index, ◌==◌, List, [], ◌∷◌, length, take, drop, sum_by, if◌then◌else◌}
 use Rattle.std.specs.List.{flat_map}
 use Rattle.sg_base.specs.declared.file.Listed.{Listed}
 use Rattle.sg_disk.specs.Contents.{Segment, Stand, IsInside, taken_at}
 use Rattle.sg_disk.specs.Contents.{Extent, Pages}
+use Rattle.sg_disk.specs.declared.places.TheConstants.{DATA, PAGE}
 use Rattle.sg_placing.specs.declared.placed.Placed.{Placed}
 use Rattle.sg_pages.specs.Pages.{needed}
 use Rattle.sg_pages.specs.declared.shelf.Found.{Found}
@@ -53,3 +54,8 @@ found_at pages found = record { file = found.placed.file; stand = stand_in (drop
 -- a shelf has as many pages as its files need
 abbrev pub IsFilled : Shelved → Type 0
 IsFilled s = length s.pages ≡ sum_by pages_for s.files
+
+-- where a byte of a file stands: behind its place, or in the page that the byte is in
+abbrev pub byte_place : Stand → ℕ → ℕ
+byte_place (Extent place) offset = place + offset
+byte_place (Pages pages) offset = DATA + PAGE * slice_index pages (offset / PAGE) + offset % PAGE

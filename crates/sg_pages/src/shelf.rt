@@ -1,16 +1,16 @@
 // Files and where each stands, in room that was taken once.
-ghost use Rattle.std.specs.Prelude.{◌≡◌, ℕ, List, ◌+◌, ◌*◌, ◌<◌, ◌≤◌, [], ◌∷◌, ◌++◌, length, find, filter, sum_by, option_map, map, None, Some, OnOk, IfOk, IfErr, IfSome, vec_len, vec_capacity};
+ghost use Rattle.std.specs.Prelude.{◌≡◌, ℕ, List, ◌+◌, ◌*◌, ◌^◌, ◌<◌, ◌≤◌, [], ◌∷◌, ◌++◌, length, drop, find, filter, sum_by, option_map, map, None, Some, OnOk, IfOk, IfErr, IfSome, vec_len, vec_capacity};
 ghost use Rattle.sg_placing.specs.Placing.{same_file, is_listed};
 ghost use Rattle.sg_disk.specs.Contents.{Segment, page_at};
 ghost use Rattle.sg_pages.specs.Pages.{Marks};
 ghost use Rattle.sg_pages.specs.Maps.{pages_of, bad_entry};
-ghost use Rattle.sg_pages.specs.Shelves.{pages_for, stands, stands_in, found_at, stand_in, IsFilled};
+ghost use Rattle.sg_pages.specs.Shelves.{pages_for, stands, stands_in, found_at, stand_in, byte_place, IsFilled};
 
 use crate::maps::{BadEntry, MAP_ENTRY_LEN, read_map};
 use crate::page_set::{MAX_PAGES, PageSet};
 use sg_base::Listed;
 use sg_base::limits::MANIFEST_FILES;
-use sg_disk::PAGE;
+use sg_disk::{DATA, PAGE};
 use sg_placing::{Placed, is_listed, is_same};
 use std::alloc::{AllocError, Global};
 use std::marker::Model;
@@ -151,6 +151,22 @@ impl Shelf {
         spare.clear();
         put_kept(self, files, spare);
         swap(self, spare);
+    }
+
+    /// The place on the disk of a byte of a file that was found on this shelf. From there on stand the bytes up to the file's
+    /// end, or up to the end of the page if it stands in pages.
+    pub fn place_of(&self, found: &Found, offset: u32) -> u64
+        requires found { found.now.first + pages_for found.now.placed ≤ length self.now.pages }
+        requires offset { offset < found.now.placed.file.length }
+        requires place { found.now.placed.place + found.now.placed.file.length < 2 ^ 64 }
+        ensures { result ≡ byte_place
+            (stand_in (drop found.now.first self.now.pages) found.now.placed) offset }
+    {
+        if found.placed.place != 0 {
+            return found.placed.place + u64::from(offset);
+        }
+        let page = self.pages[found.first as usize + (u64::from(offset) / PAGE) as usize];
+        DATA + PAGE * u64::from(page) + u64::from(offset) % PAGE
     }
 
     /// The first of its files that is the listed one. It goes over the files once.

@@ -117,6 +117,40 @@ fn a_shelf_keeps_the_files_that_are_listed(rt: HostRuntime) -> Result<(), Fail> 
     Ok(())
 }
 
+// Where a byte of a file stands, counted from the front of the data area.
+fn place_in(shelf: &Shelf, file: &Placed, offset: u32) -> Result<u64, Fail>
+    requires { IsFilled shelf.now }
+{
+    let Some(found) = shelf.find(&file.file) else {
+        return Err(Unmet)?;
+    };
+    if offset >= found.placed.file.length || found.placed.place > 1_000_000_000 {
+        return Err(Unmet)?;
+    }
+    Ok(shelf.place_of(&found, offset).saturating_sub(DATA))
+}
+
+#[test]
+fn a_byte_stands_in_the_page_that_it_is_in(rt: HostRuntime) -> Result<(), Fail> {
+    let [one, two, three, _] = files();
+    let shelf = shelf_of_four(rt.alloc())?;
+    // The third file has the pages 0, 9 and 2.
+    let rows = [
+        (one, 65_535, 393_215),
+        (two, 0, 70_000),
+        (two, 999, 70_999),
+        (three, 0, 0),
+        (three, 65_535, 65_535),
+        (three, 65_536, 589_824),
+        (three, 70_000, 594_288),
+        (three, 131_072, 131_072),
+    ];
+    for (file, offset, place) in rows {
+        assert_eq!(rt; place_in(&shelf, &file, offset)?, place, "byte {offset}");
+    }
+    Ok(())
+}
+
 // Whether those of these files that have a place lie in a data area of so many bytes.
 fn are_placed_in(files: &[Placed], room: u64) -> bool
     ensures { result ≡ true → All (IsPlacedIn room) files.now }
