@@ -1,7 +1,9 @@
 //! Replies by their JSON and status, and rows by the bytes that a keeper has of them. The texts are those of the rules,
 //! written by hand; the digest is that of `abc` (RFC 1321).
 
-ghost use Rattle.std.specs.Prelude.{◌≢◌};
+ghost use Rattle.sg_edit_rows.specs.EditRows.{IsRow};
+ghost use Rattle.sg_rows.specs.declared.form.RowForm.TheVariants.{Edit};
+ghost use Rattle.std.specs.Prelude.{IfOk, ◌≢◌};
 ghost use Rattle.sg_base.specs.declared.kind.Kind.TheVariants as of_kind;
 
 use serde_json::Value;
@@ -251,6 +253,7 @@ fn a_medium_is_kept_with_what_has_come_of_it(rt: HostRuntime) -> Result<(), Fail
 
 fn row_of(alloc: Global, kind: Kind, text: &str) -> Result<Row, Fail>
     requires { kind ≢ of_kind.Client }
+    ensures { IfOk result (λ row. IsRow Edit row) }
 {
     let value = Value::from_str(alloc, text)?;
     Ok(read_row(alloc, kind, RowForm::Edit, &value)?)
