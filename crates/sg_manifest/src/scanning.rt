@@ -56,9 +56,13 @@ fn rows<T: ManifestRow + ScanRow>(
     }
 }
 
-/// The form of the version that is named last, which stands near the end of a good text.
+/// More bytes than stand in a good text from the name of its version on.
+const ENDING: usize = 256;
+
+/// The form of the version that is named last, near the end of the text.
 fn last_form(bytes: &[u8]) -> RowForm {
-    for place in (0..bytes.len()).rev() {
+    let first = bytes.len().saturating_sub(ENDING);
+    for place in (first..bytes.len()).rev() {
         let end = &bytes[place..];
         if end.starts_with(b"\"version\":") {
             return if end.starts_with(b"\"version\":1") {

@@ -5,6 +5,7 @@ ghost use Rattle.std.specs.List.{AllByRecursion};
 ghost use Rattle.sg_rows.specs.declared.form.RowForm.{RowForm};
 
 use crate::scan::Scan;
+use sg_base::limits::{MANIFEST_EVENTS, MAX_ITEMS};
 use sg_rows::RowForm;
 use std::alloc::Global;
 
@@ -26,7 +27,7 @@ pub trait ScanRow: Sized + Drop {
         ensures { IfSome result (valid form) };
 }
 
-/// The parts of a list, behind its opening bracket.
+/// The parts of a list, behind its opening bracket. No list of a row has more than a region has items.
 pub(crate) fn scan_parts<T: ScanPart>(alloc: Global, text: &mut Scan) -> Option<Vec<T>>
     ensures { IfSome result (λ v. AllByRecursion T.valid v.items) }
 {
@@ -34,7 +35,7 @@ pub(crate) fn scan_parts<T: ScanPart>(alloc: Global, text: &mut Scan) -> Option<
     if text.pass(b"]").is_some() {
         return Some(parts);
     }
-    for _ in 0..text.len() {
+    for _ in 0..MAX_ITEMS {
         let part = T::scan(alloc, text)?;
         parts.push(part).ok()?;
         if text.pass(b"]").is_some() {
@@ -45,7 +46,7 @@ pub(crate) fn scan_parts<T: ScanPart>(alloc: Global, text: &mut Scan) -> Option<
     None
 }
 
-/// The rows of a list, behind its opening bracket.
+/// The rows of a list, behind its opening bracket. No list of a manifest has more than that of events.
 pub fn scan_rows<T: ScanRow>(alloc: Global, form: RowForm, text: &mut Scan) -> Option<Vec<T>>
     ensures { IfSome result (λ v. AllByRecursion (T.valid form) v.items) }
 {
@@ -53,7 +54,7 @@ pub fn scan_rows<T: ScanRow>(alloc: Global, form: RowForm, text: &mut Scan) -> O
     if text.pass(b"]").is_some() {
         return Some(rows);
     }
-    for _ in 0..text.len() {
+    for _ in 0..MANIFEST_EVENTS {
         let row = T::scan(alloc, form, text)?;
         rows.push(row).ok()?;
         if text.pass(b"]").is_some() {

@@ -36,11 +36,6 @@ impl<'b> Scan<'b> {
         Scan { left: bytes }
     }
 
-    /// How many bytes are left.
-    pub(crate) fn len(&self) -> usize {
-        self.left.len()
-    }
-
     /// Passes a piece, if it stands next.
     pub fn pass(&mut self, piece: &[u8]) -> Option<()> {
         let left = self.left;
