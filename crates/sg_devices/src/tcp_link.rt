@@ -1,5 +1,5 @@
 // A link over TCP. It is the trusted edge: no contract can say what a socket gives, nor when.
-ghost use Rattle.std.specs.Prelude.{◌≡◌, ◌<◌, ◌≤◌, None, length, IfOk, IfSome};
+ghost use Rattle.std.specs.Prelude.{◌≡◌, ◌<◌, ◌≤◌, None, length, OnOk, IfOk, IfSome, IsSome};
 ghost use Rattle.sg_base.specs.Causes.{HasCause, Rose};
 
 use crate::link::{Link, LinkFailed};
@@ -40,6 +40,7 @@ impl<R: Net> TcpLink<R> {
     /// The same link, but it waits for `seconds` at most.
     pub fn with_wait(mut self, seconds: u32) -> Self
         requires { 0 < seconds }
+        ensures wait { result.wait ≡ seconds }
         ensures faults { result.faults ≡ self.faults }
     {
         self.wait = seconds;
@@ -48,6 +49,7 @@ impl<R: Net> TcpLink<R> {
 
     /// Begins an exchange: connects, and sends the request. One that was begun before and not finished is given up.
     pub fn begin(&mut self, request: &[u8]) -> Result<(), LinkFailed>
+        ensures begun { OnOk result (IsSome self.new.stream) }
         ensures cause { HasCause self.old.faults self.new.faults result }
     {
         self.stream = None;

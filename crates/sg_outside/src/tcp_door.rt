@@ -1,5 +1,5 @@
 // The door over a TCP port. It is the trusted edge: no contract can say who connects, nor what a socket gives.
-ghost use Rattle.std.specs.Prelude.{◌≡◌, ◌<◌, ◌≤◌, None, false, OnOk, OnErr, IfOk};
+ghost use Rattle.std.specs.Prelude.{◌≡◌, ◌<◌, ◌≤◌, None, false, OnOk, OnErr, IfOk, IsSome};
 ghost use Rattle.sg_base.specs.Causes.{HasCause, Rose};
 
 use crate::door::{Door, DoorFailed};
@@ -83,6 +83,7 @@ impl<R: Net> TcpDoor<R> {
     /// The same door, but a read or a write of its connections waits for `seconds` at most.
     pub fn with_stall(mut self, seconds: u32) -> Self
         requires { 0 < seconds }
+        ensures stall { result.stall ≡ seconds }
         ensures faults { result.faults ≡ self.faults }
     {
         self.stall = seconds;
@@ -91,6 +92,7 @@ impl<R: Net> TcpDoor<R> {
 
     /// Binds the port, where that wasn't done yet. A port that can't be bound is a counted fault.
     pub fn listen(&mut self) -> Result<(), DoorFailed>
+        ensures bound { OnOk result (IsSome self.new.listener) }
         ensures cause { HasCause self.old.faults self.new.faults result }
     {
         if self.listener.is_some() {
