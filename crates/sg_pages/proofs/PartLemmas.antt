@@ -1,13 +1,14 @@
 -- The bytes of a file that stands in parts: what a write inside one part adds to them, and where a range of them stands.
-use Rattle.std.proofs.Common.{◌≡◌, ℕ, zero, suc, ◌+◌, ◌-◌, ◌*◌, ◌/◌, ◌%◌, ◌<◌, ◌≤◌, min, List, [], ◌∷◌, ◌++◌, length, get_or, take, drop, refl, sym, ◌∙◌, ap, subst, arith, length-drop, append_assoc}
+use Rattle.std.proofs.Common.{◌≡◌, ◌⊎◌, inl, inr, ℕ, zero, suc, ◌+◌, ◌-◌, ◌*◌, ◌/◌, ◌%◌, ◌<◌, ◌≤◌, min, List, [], ◌∷◌, ◌++◌, length, get_or, take, drop, refl, sym, ◌∙◌, ap, subst, arith, length-drop, append_assoc}
 use Rattle.std.specs.List.{flat_map}
 use Rattle.std.proofs.Math.Seq.{take-append-add}
-use Rattle.std.proofs.lemmas.List.{take-append-le, drop-append-le, drop-drop, drop_at, take-take, length-take-le}
-use Rattle.sg_disk.specs.View.{range}
+use Rattle.std.proofs.lemmas.List.{take-append-le, drop-append-le, drop-drop, drop_at, take-take, length-take-le, get_or-take}
+use Rattle.std.proofs.lemmas.Bool.{cases_lt}
+use Rattle.sg_disk.specs.View.{range, Torn}
 use Rattle.sg_disk.specs.Contents.{Segment, Stand, parts_of, parts_at}
 use Rattle.sg_disk.specs.Contents.{Extent, Pages}
 use Rattle.sg_disk.specs.declared.places.TheConstants.{DATA, PAGE}
-use Rattle.sg_disk.proofs.Ranges.{range-range, length-range}
+use Rattle.sg_disk.proofs.Ranges.{range-range, range_kept, length-range}
 use Rattle.sg_disk.proofs.Parts.{range_more}
 use Rattle.sg_pages.specs.Pages.{needed}
 use Rattle.sg_pages.specs.Shelves.{byte_place}
@@ -123,3 +124,44 @@ range_of_file c n (Pages pages) offset m enough within some fits row =
     ap (λ (l : List Segment). range (bytes_of c l) offset m) split
     ∙ ap (λ (k : ℕ). range (bytes_of c (before ++ s ∷ behind)) k m) at
     ∙ range_of_part c before s behind r m (subst (AreWithin (length c)) split within) (omega (arith, row pages refl, whole, fits))
+
+-- what stands in pages stays, where a write is inside another page
+pub pages_kept : (n : ℕ) (pages : List ℕ) (q r l : ℕ) → r + l ≤ PAGE → ((k : ℕ) → k < length pages → get_or pages k 0 ≡ q → ⊥) → (c d : List ℕ) → Torn (DATA + PAGE * q + r) l c d → bytes_of d (parts_of n pages) ≡ bytes_of c (parts_of n pages)
+pages_kept n [] q r l fits other c d torn = refl
+pages_kept n (page ∷ pages) q r l fits other c d torn =
+    let here : range d (DATA + PAGE * page) (min n PAGE) ≡ range c (DATA + PAGE * page) (min n PAGE) = range_kept (DATA + PAGE * q + r) l (DATA + PAGE * page) (min n PAGE) c d torn (apart (other 0 (omega arith))) in
+    let rest : bytes_of d (parts_of (n - PAGE) pages) ≡ bytes_of c (parts_of (n - PAGE) pages) = pages_kept (n - PAGE) pages q r l fits (λ k lt. other (suc k) (omega (arith, lt))) c d torn in
+    ap (λ (b : List ℕ). b ++ bytes_of d (parts_of (n - PAGE) pages)) here ∙ ap (λ (b : List ℕ). range c (DATA + PAGE * page) (min n PAGE) ++ b) rest
+  where
+    apart : (page ≡ q → ⊥) → (DATA + PAGE * page + min n PAGE ≤ DATA + PAGE * q + r) ⊎ (DATA + PAGE * q + r + l ≤ DATA + PAGE * page)
+    apart differ = elim (cases_lt page q) [
+      | inl below ↦ inl (omega (arith, below))
+      | inr from ↦ elim (cases_lt q page) [
+        | inl above ↦ inr (omega (arith, above, fits))
+        | inr upto ↦ absurd (differ (omega (arith, from, upto)))
+      ]
+    ]
+
+-- The next bytes of a file in pages, written at their place and inside one page, stand behind those that came before them
+pub written_in_file : (c d : List ℕ) (n : ℕ) (pages : List ℕ) (offset : ℕ) (bs : List ℕ) → length pages ≡ needed n → ((k i : ℕ) → k < i → i < length pages → get_or pages k 0 ≡ get_or pages i 0 → ⊥) → AreWithin (length c) (parts_of n pages) → 0 < length bs → offset + length bs ≤ n → offset % PAGE + length bs ≤ PAGE → Torn (byte_place (Pages pages) offset) (length bs) c d → range d (byte_place (Pages pages) offset) (length bs) ≡ bs
+    → take (offset + length bs) (bytes_of d (parts_of n pages)) ≡ take offset (bytes_of c (parts_of n pages)) ++ bs
+written_in_file c d n pages offset bs enough distinct within some fits row torn there =
+    let i : ℕ = offset / PAGE in
+    let r : ℕ = offset % PAGE in
+    let q : ℕ = get_or pages i 0 in
+    let whole : offset ≡ PAGE * i + r = omega arith in
+    let lt : i < length pages = grind (arith, enough, fits, some) in
+    let s : Segment = record { place = DATA + PAGE * q; size = min (n - PAGE * i) PAGE } in
+    let before : List Segment = parts_of n (take i pages) in
+    let behind : List Segment = parts_of (n - PAGE * suc i) (drop (suc i) pages) in
+    let split : parts_of n pages ≡ before ++ s ∷ behind = parts_split n i pages 0 lt in
+    let front : length (take i pages) ≡ i = length-take-le i pages (omega (arith, lt)) in
+    let size : size_of before ≡ PAGE * i = size_of_pages n (take i pages) (omega (arith, front, whole, fits)) ∙ ap (λ (k : ℕ). PAGE * k) front in
+    let at : offset ≡ size_of before + r = omega (arith, whole, size) in
+    let earlier : bytes_of d before ≡ bytes_of c before = pages_kept n (take i pages) q r (length bs) row (λ k below same. distinct k i (omega (arith, below, front)) lt (sym (get_or-take i pages k 0 (omega (arith, below, front))) ∙ same)) c d torn in
+    let so_far : range d s.place r ≡ range c s.place r = range_kept (s.place + r) (length bs) s.place r c d torn (inl (omega arith)) in
+    ap (λ (l : List Segment). take (offset + length bs) (bytes_of d l)) split
+    ∙ ap (λ (k : ℕ). take (k + length bs) (bytes_of d (before ++ s ∷ behind))) at
+    ∙ written_in_part c d before s behind r bs (subst (AreWithin (length c)) split within) torn.same_length (omega (arith, row, whole, fits)) earlier so_far there
+    ∙ ap (λ (k : ℕ). take k (bytes_of c (before ++ s ∷ behind)) ++ bs) (sym at)
+    ∙ ap (λ (l : List Segment). take offset (bytes_of c l) ++ bs) (sym split)

@@ -1,5 +1,5 @@
 -- Where the files of a shelf stand.
-use Rattle.std.proofs.Common.{◌≡◌, ℕ, ◌+◌, ◌<◌, ◌≤◌, ◌==◌, Bool, true, false, cond, List, [], ◌∷◌, ◌++◌, length, get_or, take, drop, map, ◌||◌, sum_by, find, filter, None, Some, if◌then◌else◌, refl, sym, ◌∙◌, ap, subst, arith, length-append, length-drop, append_assoc}
+use Rattle.std.proofs.Common.{◌≡◌, ◌*◌, ◌/◌, ℕ, ◌+◌, ◌<◌, ◌≤◌, ◌==◌, Bool, true, false, cond, List, [], ◌∷◌, ◌++◌, length, get_or, take, drop, map, ◌||◌, sum_by, find, filter, None, Some, if◌then◌else◌, refl, sym, ◌∙◌, ap, subst, arith, length-append, length-drop, append_assoc}
 use Rattle.std.proofs.lemmas.List.{drop_more, at_drop_all, drop-drop, take-append-le, drop-append-le, take-append-drop, map-append, take_more, take-take, take_all, append-nil}
 use Rattle.std.proofs.lemmas.List.Sums.{sum_by-append, sum_by-cons, sum_by_more}
 use Rattle.std.proofs.lemmas.List.Folds.{list_any-append}
@@ -8,7 +8,8 @@ use Rattle.std.proofs.lemmas.List.Elements.{filter-append}
 use Rattle.std.proofs.Math.Bool.{or-true}
 use Rattle.std.specs.List.{flat_map}
 use Rattle.sg_base.specs.declared.file.Listed.{Listed}
-use Rattle.sg_disk.specs.Contents.{Segment, Stand, page_at, taken_at}
+use Rattle.sg_disk.specs.Contents.{Segment, Stand, IsRoom, page_at, taken_at}
+use Rattle.sg_disk.specs.declared.places.TheConstants.{PAGE}
 use Rattle.sg_disk.specs.Contents.{Extent, Pages}
 use Rattle.sg_placing.specs.Placing.{same_file, is_listed}
 use Rattle.sg_placing.specs.declared.placed.Placed.{Placed}
@@ -168,3 +169,11 @@ keeps_more files from kept new i first next p d lt is at stood filled few pages 
 
 pub keeps_all : (files : List Listed) (from kept : Shelved) (i first : ℕ) → length from.files ≤ i → Keeps files from kept i first → stands kept ≡ filter (λ f. is_listed files f.file) (stands from)
 keeps_all files from kept i first le so_far = so_far.stands_are ∙ ap (λ (l : List Placed). filter (λ f. is_listed files f.file) (stands_in from.pages l)) (take_all i from.files le)
+
+-- what the files of two shelves take is marked, one shelf behind the other
+pub marks_both : (current staged : Shelved) (marks : List Bool) → Marks (([] ++ all_taken_at (stands current)) ++ all_taken_at (stands staged)) marks → Marks (all_taken_at (stands current ++ stands staged)) marks
+marks_both current staged marks are = subst (λ (l : List Segment). Marks l marks) (sym (flat_map-append (λ (f : FileAt). taken_at f.file.length f.stand) (stands current) (stands staged))) are
+
+-- a data area has whole pages
+pub whole_pages : (room n : ℕ) → IsRoom room → n ≡ room / PAGE → room ≡ PAGE * n
+whole_pages room n is at = let whole = is.whole in omega arith

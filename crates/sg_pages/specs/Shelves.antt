@@ -1,5 +1,5 @@
 -- Files on a shelf, and where each stands.
-use Rattle.std.specs.Prelude.{◌≡◌, ◌≢◌, ℕ, ◌+◌, ◌*◌, ◌/◌, ◌%◌, slice_index, ◌==◌, List, [], ◌∷◌, length, take, drop, sum_by, if◌then◌else◌}
+use Rattle.std.specs.Prelude.{◌≡◌, ◌≢◌, ℕ, ◌+◌, ◌*◌, ◌/◌, ◌%◌, ◌<◌, All, slice_index, ◌==◌, List, [], ◌∷◌, length, take, drop, sum_by, if◌then◌else◌}
 use Rattle.std.specs.List.{flat_map}
 use Rattle.sg_base.specs.declared.file.Listed.{Listed}
 use Rattle.sg_disk.specs.Contents.{Segment, Stand, IsInside, taken_at}
@@ -46,6 +46,12 @@ extent_of p = if p.place == 0 then [] else record { place = p.place; size = p.fi
 -- a file stands in pages, or in a range of a data area of this length
 abbrev pub IsPlacedIn : ℕ → Placed → Type 0
 IsPlacedIn room p = p.place ≢ 0 → IsInside room (record { place = p.place; size = p.file.length })
+
+-- all files of a shelf stand in a data area of this length
+pub record IsShelfIn (room : ℕ) (s : Shelved) : Type 0 where
+  pub filled : length s.pages ≡ sum_by pages_for s.files
+  pub files : All (IsPlacedIn room) s.files
+  pub pages : All (λ page. page < room / PAGE) s.pages
 
 -- a file that was found, of which the first page is that one of these
 abbrev pub found_at : List ℕ → Found → FileAt

@@ -1,12 +1,12 @@
 // Shelves by example: where the files on one stand, which of them are kept, and which pages they take.
 ghost use Rattle.std.specs.Prelude.{◌≡◌, ◌+◌, ◌*◌, ◌<◌, ◌≤◌, All, length, true, IfOk};
 ghost use Rattle.sg_disk.specs.declared.places.TheConstants.{PAGE};
-ghost use Rattle.sg_pages.specs.Shelves.{pages_for, IsFilled, IsPlacedIn};
+ghost use Rattle.sg_pages.specs.Shelves.{pages_for, IsFilled, IsPlacedIn, IsShelfIn};
 
 use crate::tests::{Unmet, are_pages, lowest};
 use sg_base::{Listed, MediaId};
 use sg_disk::{DATA, PAGE};
-use sg_pages::{Found, MAX_PAGES, PageSet, Shelf};
+use sg_pages::{Found, MAX_PAGES, NoSpace, PageSet, Shelf, choose_pages};
 use sg_placing::Placed;
 use std::alloc::Global;
 use std::test::Fail;
@@ -220,5 +220,64 @@ fn a_found_file_goes_to_another_shelf(rt: HostRuntime) -> Result<(), Fail> {
     }
     assert_eq!(rt; next.files(), [three, two, one].as_slice());
     assert_eq!(rt; next.pages(), [0, 9, 2, 5].as_slice());
+    Ok(())
+}
+
+// Whether the files of a shelf stand in a data area of three pages.
+fn is_in_three(shelf: &Shelf) -> bool
+    requires { IsFilled shelf.now }
+    ensures { result ≡ true → IsShelfIn 196608 shelf.now }
+{
+    are_placed_in(shelf.files(), 196_608) && are_pages(shelf.pages(), 3)
+}
+
+// The pages that a file of so many gets beside two shelves, in a data area of three pages.
+fn chosen(
+    alloc: Global,
+    current: &Shelf,
+    staged: &Shelf,
+    need: u32,
+) -> Result<Result<Vec<u16>, NoSpace>, Fail>
+    requires current { IsFilled current.now }
+    requires staged { IsFilled staged.now }
+{
+    if !is_in_three(current) || !is_in_three(staged) {
+        return Err(Unmet)?;
+    }
+    let mut set = PageSet::reserve(alloc)?;
+    let mut pages = Vec::with_capacity(alloc, need as usize)?;
+    match choose_pages(196_608, current, staged, need, &mut set, &mut pages) {
+        Ok(()) => Ok(Ok(pages)),
+        Err(fault) => Ok(Err(fault)),
+    }
+}
+
+#[test]
+fn a_file_gets_the_lowest_free_pages(rt: HostRuntime) -> Result<(), Fail> {
+    let alloc = rt.alloc();
+    let mut current = Shelf::reserve(alloc)?;
+    let mut staged = Shelf::reserve(alloc)?;
+    let none = chosen(alloc, &current, &staged, 4)?.err();
+    assert_eq!(rt; none, Some(NoSpace { need: 4, free: 3 }));
+    let Ok(all) = chosen(alloc, &current, &staged, 3)? else {
+        return Err(Unmet)?;
+    };
+    assert_eq!(rt; all.as_slice(), [0, 1, 2].as_slice());
+    // A snapshot with medium 2 alone, whose page is the middle one, leaves both others to a file of two pages.
+    put(&mut current, in_pages(2, 65_536), &[1])?;
+    let Ok(both) = chosen(alloc, &current, &staged, 2)? else {
+        return Err(Unmet)?;
+    };
+    assert_eq!(rt; both.as_slice(), [0, 2].as_slice());
+    put(&mut staged, in_pages(4, 131_072), both.as_slice())?;
+    let none = chosen(alloc, &current, &staged, 1)?.err();
+    assert_eq!(rt; none, Some(NoSpace { need: 1, free: 0 }));
+    Ok(())
+}
+
+#[test]
+fn a_refusal_says_what_is_free(rt: HostRuntime) -> Result<(), Fail> {
+    let text = format!(in rt.alloc(); "{}", NoSpace { need: 2, free: 1 })?;
+    assert_eq!(rt; text.as_str(), "2 pages are needed, and 1 are free");
     Ok(())
 }
