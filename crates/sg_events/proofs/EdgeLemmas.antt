@@ -1,5 +1,5 @@
 -- The next edge, from the next of its kinds; and between edges nothing changes.
-use Rattle.std.proofs.Common.{◌≡◌, ℕ, ◌+◌, ◌-◌, ◌*◌, ◌<◌, ◌≤◌, Bool, true, false, Option, Some, None, IfSome, ◌⊎◌, inl, inr, refl, sym, ◌∙◌, leb, arith, ℤ, pos, negsuc, neg_ℤ, ◌+ℤ◌, ◌-ℤ◌, ◌*ℤ◌, ◌<ℤ◌, ◌≤ℤ◌, Decides}
+use Rattle.std.proofs.Common.{◌≡◌, ℕ, ◌+◌, ◌-◌, ◌*◌, ◌<◌, ◌≤◌, true, false, Option, Some, None, IfSome, ◌⊎◌, inl, inr, refl, sym, ◌∙◌, leb, arith, ℤ, pos, negsuc, neg_ℤ, ◌+ℤ◌, ◌-ℤ◌, ◌*ℤ◌, ◌<ℤ◌, ◌≤ℤ◌}
 use Rattle.std.proofs.lemmas.Bool.{cond_both, leb-false, false≢true}
 use Rattle.std.proofs.lemmas.Bool.Decides.{same_from_decides}
 use Rattle.std.proofs.lemmas.Int.{by_lt_z}
@@ -11,11 +11,11 @@ use Rattle.sg_base.specs.declared.event.When.TheVariants.{Always, Custom, Named}
 use Rattle.sg_base.specs.declared.ids.DaypartId.{DaypartId}
 use Rattle.sg_base.specs.Daypart.{DaypartRow, IsDaypart}
 use Rattle.sg_base.specs.Repeat.{RepeatRow}
-use Rattle.sg_calendar.specs.Dates.{is_start, is_on_date, IsStartAfter, IsNoStartAfter, IsDateAfter, IsNoDateAfter}
+use Rattle.sg_calendar.specs.Dates.{is_on_date, IsStartAfter, IsNoStartAfter, IsDateAfter, IsNoDateAfter}
 use Rattle.sg_calendar.specs.Windows.{window_at, end_of, opens, closes}
 use Rattle.sg_calendar.proofs.WindowLemmas.{window_valid, end_bound}
-use Rattle.sg_events.specs.Active.{IsRunning, IsOpenOn, IsOpen, is_active_at}
-use Rattle.sg_events.specs.Edges.{IsBegin, IsOver, IsWindowEdge, IsEdge, IsFirstAfter, IsNextEdge, IsLaterEdge, IsLesser}
+use Rattle.sg_events.specs.Active.{IsRunning, IsOpen, is_active_at}
+use Rattle.sg_events.specs.Edges.{IsBegin, IsOver, IsWindowEdge, IsEdge, IsUpTo, IsFirstAfter, IsLaterEdge, IsLesser}
 use Rattle.sg_events.proofs.ActiveLemmas.{Decides-map, running_decides, open_decides}
 
 -- the first of two kinds, from the first of each
@@ -246,48 +246,48 @@ module _ (w : When) (r : Option RepeatRow) (d : DaypartRow) where
 -- ---- Between edges nothing changes
 
 -- an occurrence that is on at one of two seconds with no edge between is on at the other
-module _ (E : ℤ → Type 0) (t x u a b : ℤ) (next : IsFirstAfter E t x) (from : t ≤ℤ u) (before : u <ℤ x) where
+module _ (E : ℤ → Type 0) (t x u a b : ℤ) (free : IsUpTo E t x) (from : t ≤ℤ u) (before : u <ℤ x) where
   on_before : E a → a ≤ℤ u → u <ℤ b → (a ≤ℤ t) × (t <ℤ b)
   on_before edge begun inside = (
-    by_lt_z t a (λ lt. absurd (omega (arith, signed_arith, next.least a edge lt))) (λ ge. ge),
+    by_lt_z t a (λ lt. absurd (omega (arith, signed_arith, free a edge lt))) (λ ge. ge),
     omega (arith, signed_arith),
   )
 
   on_after : E b → a ≤ℤ t → t <ℤ b → (a ≤ℤ u) × (u <ℤ b)
   on_after edge begun inside = (
     omega (arith, signed_arith),
-    by_lt_z u b (λ lt. lt) (λ ge. absurd (omega (arith, signed_arith, next.least b edge inside))),
+    by_lt_z u b (λ lt. lt) (λ ge. absurd (omega (arith, signed_arith, free b edge inside))),
   )
 
-module _ (from to : ℕ) (r : Option RepeatRow) (d : Option DaypartRow) (t x u : ℤ) (next : IsNextEdge (Custom from to) r d t x) (order : t ≤ℤ u) (before : u <ℤ x) where
+module _ (from to : ℕ) (r : Option RepeatRow) (d : Option DaypartRow) (t x u : ℤ) (free : IsUpTo (IsEdge (Custom from to) r d) t x) (order : t ≤ℤ u) (before : u <ℤ x) where
   run_before : IsRunning from to r u → IsRunning from to r t
   run_before h =
-      let on = on_before (IsEdge (Custom from to) r d) t x u (pos h.start) (pos (h.start + (to - from))) next order before (inl (record { start = h.start; is = h.is; at = refl })) h.begun h.not_over in
+      let on = on_before (IsEdge (Custom from to) r d) t x u (pos h.start) (pos (h.start + (to - from))) free order before (inl (record { start = h.start; is = h.is; at = refl })) h.begun h.not_over in
       record { start = h.start; is = h.is; begun = on.0; not_over = on.1 }
 
   run_after : IsRunning from to r t → IsRunning from to r u
   run_after h =
-      let on = on_after (IsEdge (Custom from to) r d) t x u (pos h.start) (pos (h.start + (to - from))) next order before (inr (record { start = h.start; is = h.is; at = refl })) h.begun h.not_over in
+      let on = on_after (IsEdge (Custom from to) r d) t x u (pos h.start) (pos (h.start + (to - from))) free order before (inr (record { start = h.start; is = h.is; at = refl })) h.begun h.not_over in
       record { start = h.start; is = h.is; begun = on.0; not_over = on.1 }
 
-module _ (daypart : DaypartId) (base : ℕ) (r : Option RepeatRow) (d : DaypartRow) (t x u : ℤ) (next : IsNextEdge (Named daypart base) r (Some d) t x) (order : t ≤ℤ u) (before : u <ℤ x) where
+module _ (daypart : DaypartId) (base : ℕ) (r : Option RepeatRow) (d : DaypartRow) (t x u : ℤ) (free : IsUpTo (IsEdge (Named daypart base) r (Some d)) t x) (order : t ≤ℤ u) (before : u <ℤ x) where
   open_before : IsOpen (Named daypart base) r d u → IsOpen (Named daypart base) r d t
   open_before h =
       let o = h.open_on in
-      let on = on_before (IsEdge (Named daypart base) r (Some d)) t x u (opens d h.date) (closes d h.date) next order before (h.date, record { is = o.is; at = inl refl }) o.begun o.not_over in
+      let on = on_before (IsEdge (Named daypart base) r (Some d)) t x u (opens d h.date) (closes d h.date) free order before (h.date, record { is = o.is; at = inl refl }) o.begun o.not_over in
       record { date = h.date; open_on = record { is = o.is; begun = on.0; not_over = on.1 } }
 
   open_after : IsOpen (Named daypart base) r d t → IsOpen (Named daypart base) r d u
   open_after h =
       let o = h.open_on in
-      let on = on_after (IsEdge (Named daypart base) r (Some d)) t x u (opens d h.date) (closes d h.date) next order before (h.date, record { is = o.is; at = inr refl }) o.begun o.not_over in
+      let on = on_after (IsEdge (Named daypart base) r (Some d)) t x u (opens d h.date) (closes d h.date) free order before (h.date, record { is = o.is; at = inr refl }) o.begun o.not_over in
       record { date = h.date; open_on = record { is = o.is; begun = on.0; not_over = on.1 } }
 
--- up to the next edge an event stays active, or stays idle
-pub activity_same : (w : When) (r : Option RepeatRow) (d : Option DaypartRow) (t x u : ℤ) → IfSome d IsDaypart → IsNextEdge w r d t x → t ≤ℤ u → u <ℤ x → is_active_at w r d u ≡ is_active_at w r d t
-activity_same Always r d t x u valid next order before = refl
-activity_same (Custom from to) r d t x u valid next order before =
-    same_from_decides _ _ (Decides-map _ (run_before from to r d t x u next order before) (run_after from to r d t x u next order before) (running_decides from to r d u)) (running_decides from to r d t)
-activity_same (Named daypart base) r None t x u valid next order before = refl
-activity_same (Named daypart base) r (Some d) t x u valid next order before =
-    same_from_decides _ _ (Decides-map _ (open_before daypart base r d t x u next order before) (open_after daypart base r d t x u next order before) (open_decides daypart base r d u (λ _. valid))) (open_decides daypart base r d t (λ _. valid))
+-- up to a second that no edge comes before an event stays active, or stays idle
+pub activity_same : (w : When) (r : Option RepeatRow) (d : Option DaypartRow) (t x u : ℤ) → IfSome d IsDaypart → IsUpTo (IsEdge w r d) t x → t ≤ℤ u → u <ℤ x → is_active_at w r d u ≡ is_active_at w r d t
+activity_same Always r d t x u valid free order before = refl
+activity_same (Custom from to) r d t x u valid free order before =
+    same_from_decides _ _ (Decides-map _ (run_before from to r d t x u free order before) (run_after from to r d t x u free order before) (running_decides from to r d u)) (running_decides from to r d t)
+activity_same (Named daypart base) r None t x u valid free order before = refl
+activity_same (Named daypart base) r (Some d) t x u valid free order before =
+    same_from_decides _ _ (Decides-map _ (open_before daypart base r d t x u free order before) (open_after daypart base r d t x u free order before) (open_decides daypart base r d u (λ _. valid))) (open_decides daypart base r d t (λ _. valid))

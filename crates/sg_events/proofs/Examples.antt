@@ -1,7 +1,5 @@
 -- Worked examples: the definitions give what was worked out by hand, on dates of 1970. Each is proved by computing it.
-use Rattle.std.proofs.Common.{◌≡◌, ℕ, true, false, Bool, List, [], ◌∷◌, Option, Some, None, ℤ, pos, negsuc, refl, inl, inr}
-use Rattle.sg_base.specs.declared.ids.DaypartId.{DaypartId}
-use Rattle.sg_base.specs.declared.daypart.Window.{Window}
+use Rattle.std.proofs.Common.{◌≡◌, true, false, Bool, [], ◌∷◌, Option, Some, None, ℤ, pos, negsuc, refl, inl, inr}
 use Rattle.sg_base.specs.declared.event.When.{When}
 use Rattle.sg_base.specs.declared.event.When.TheVariants.{Always, Custom, Named}
 use Rattle.sg_base.specs.declared.repeat.Unit.{Unit}

@@ -1,3 +1,4 @@
 pub mod ActiveLemmas
 pub mod EdgeLemmas
+mod QuietLemmas
 mod Examples

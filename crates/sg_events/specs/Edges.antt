@@ -32,12 +32,16 @@ IsEdge (Custom from to) r d x = IsBegin from r x ⊎ IsOver from to r x
 IsEdge (Named daypart base) r None x = ⊥
 IsEdge (Named daypart base) r (Some d) x = (date : ℤ) × IsWindowEdge (Named daypart base) r d date x
 
+-- no second among some comes after t and before x
+abbrev pub IsUpTo : (ℤ → Type 0) → ℤ → ℤ → Type 0
+IsUpTo Among t x = (y : ℤ) → Among y → t <ℤ y → x ≤ℤ y
+
 -- x is the least of the end of local seconds and what comes after t among some seconds
 pub record IsFirstAfter (Among : ℤ → Type 0) (t x : ℤ) : Type 0 where
   pub one : (x ≡ LOCAL_END) ⊎ Among x
   pub after : t <ℤ x
   pub bound : x ≤ℤ LOCAL_END
-  pub least : (y : ℤ) → Among y → t <ℤ y → x ≤ℤ y
+  pub least : IsUpTo Among t x
 
 -- x is the least of the end of local seconds and the edges after t
 abbrev pub IsNextEdge : When → Option RepeatRow → Option DaypartRow → ℤ → ℤ → Type 0

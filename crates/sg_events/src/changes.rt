@@ -167,8 +167,8 @@ fn next_opening(event: &Event, daypart: &Daypart, date: i64) -> LocalSec
     }
 }
 
-// The day of a second, rounded down.
-fn day_of(t: LocalSec) -> i64
+/// The day of a second, rounded down.
+pub(crate) fn day_of(t: LocalSec) -> i64
     requires { IsAskable t }
     ensures from { (result *ℤ pos DAY) ≤ℤ t }
     ensures till { t <ℤ ((result +ℤ pos 1) *ℤ pos DAY) }

@@ -7,6 +7,7 @@ ghost use Rattle.sg_events.specs.Active.{HasDaypart};
 
 mod changes;
 mod dayparts;
+mod quiet;
 mod runs;
 
 use sg_base::{

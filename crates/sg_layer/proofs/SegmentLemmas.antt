@@ -51,9 +51,7 @@ record IsIn (t y u : ℤ) : Type 0 where
   not_over : u <ℤ y
 
 stays : (x : Entry) (t y u : ℤ) → IsEntry x → IsUpToNext t y x → IsIn t y u → is_active u x ≡ is_active t x
-stays x t y u entry next h =
-    let few : u <ℤ next.next = omega (arith, ints, h.not_over, next.most) in
-    activity_same x.event.when x.event.repeat x.daypart t next.next u entry.daypart next.is h.begun few
+stays x t y u entry free h = activity_same x.event.when x.event.repeat x.daypart t y u entry.daypart free h.begun h.not_over
 
 all_stay : (xs : List Entry) (t y u : ℤ) → AllByRecursion IsEntry xs → AllByRecursion (IsUpToNext t y) xs → IsIn t y u → filter (is_active u) xs ≡ filter (is_active t) xs
 all_stay [] t y u entries next h = refl

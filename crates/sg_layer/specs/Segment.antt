@@ -2,7 +2,7 @@
 use Rattle.std.specs.Prelude.{◌≡◌, int_le, int_lt, ◌&&◌, ◌⊎◌, Bool, false, List, [], ◌∷◌, Option, None, Some, ℤ, pos, ◌+ℤ◌, ◌-ℤ◌, ◌≤ℤ◌}
 use Rattle.std.specs.List.{AllByRecursion}
 use Rattle.sg_base.specs.declared.limits.TheConstants.{HOUR}
-use Rattle.sg_events.specs.Edges.{IsNextEdge}
+use Rattle.sg_events.specs.Edges.{IsEdge, IsUpTo, IsNextEdge}
 use Rattle.sg_layer.specs.declared.entry.Entry.{Entry}
 use Rattle.sg_layer.specs.Shown.{place_of}
 
@@ -19,11 +19,9 @@ abbrev pub IsSomeNext : List Entry → ℤ → ℤ → Type 0
 IsSomeNext [] t y = ⊥
 IsSomeNext (x ∷ xs) t y = IsNext x t y ⊎ IsSomeNext xs t y
 
--- y isn't after an entry's next edge
-pub record IsUpToNext (t y : ℤ) (x : Entry) : Type 0 where
-  pub next : ℤ
-  pub is : IsNext x t next
-  pub most : y ≤ℤ next
+-- no edge of an entry's event comes after t and before y
+abbrev pub IsUpToNext : ℤ → ℤ → Entry → Type 0
+IsUpToNext t y x = IsUpTo (IsEdge x.event.when x.event.repeat x.daypart) t y
 
 -- y is the least of a second and of the next edges of some entries after t
 pub record IsSoonest (second : ℤ) (xs : List Entry) (t y : ℤ) : Type 0 where

@@ -1,6 +1,6 @@
 //! Which events are active at a local second, and up to which second none of that changes.
 
-ghost use Rattle.std.specs.Prelude.{◌≡◌, ◌+◌, ◌*◌, ◌<◌, ◌≤◌, ℤ, List, [], ◌∷◌, ◌++◌, map, length, vec_len, vec_capacity, option_copied};
+ghost use Rattle.std.specs.Prelude.{◌≡◌, ◌+◌, ◌*◌, ◌<◌, ◌≤◌, ◌<ℤ◌, ◌≤ℤ◌, ℤ, List, [], ◌∷◌, ◌++◌, map, length, vec_len, vec_capacity, option_copied};
 ghost use Rattle.std.specs.List.{AllByRecursion};
 ghost use Rattle.sg_base.specs.Seconds.{IsAskable};
 ghost use Rattle.sg_events.specs.Edges.{IsLesser};
@@ -10,12 +10,14 @@ ghost use Rattle.sg_layer.specs.Segment.{IsNext, IsSoonest};
 
 use crate::entry::Entry;
 use crate::listing::append;
+use sg_base::limits::LOCAL_END;
 use sg_base::{LocalSec, Steps};
-use sg_events::{active, next_change};
+use sg_events::{active, is_quiet, next_change};
 use std::sync::ledger::Ledger;
 
 /// Marks which of some entries are active at a local second, and gives the sooner of a second and the first edge of
-/// the entries. Each entry is asked for both, which counts two steps.
+/// the entries. Each entry is asked for both, which counts two steps, unless the time of day tells that it is idle up to
+/// that second.
 pub(crate) fn ask<L: Ledger>(
     entries: &[Entry],
     t: LocalSec,
@@ -26,11 +28,15 @@ pub(crate) fn ask<L: Ledger>(
     requires second { IsAskable t }
     requires entries { AllByRecursion IsEntry entries.now }
     requires room { length entries.now ≤ vec_capacity marks.old }
+    requires later { t <ℤ until }
+    requires bound { until ≤ℤ LOCAL_END }
     ensures marks { marks.new.items ≡ map (is_active t) entries.now }
     ensures room { vec_capacity marks.old ≤ vec_capacity marks.new }
     ensures soonest { (rest : List EntryValue) (end : ℤ) →
         IsSoonest result rest t end → IsSoonest until (entries.now ++ rest) t end }
-    ensures ticks { steps.new ≡ steps.old + 2 * length entries.now }
+    ensures later { t <ℤ result }
+    ensures bound { result ≤ℤ LOCAL_END }
+    ensures ticks { steps.new ≤ steps.old + 2 * length entries.now }
 {
     marks.clear();
     let mut soonest = until;
@@ -51,12 +57,20 @@ fn ask_one<L: Ledger>(
     requires second { IsAskable t }
     requires entry { IsEntry entry.now }
     requires room { vec_len marks.old < vec_capacity marks.old }
+    requires later { t <ℤ until }
+    requires bound { until ≤ℤ LOCAL_END }
     ensures marks { marks.new.items ≡ marks.old.items ++ is_active t entry.now ∷ [] }
     ensures room { vec_capacity marks.old ≤ vec_capacity marks.new }
     ensures soonest { (rest : List EntryValue) (end : ℤ) →
         IsSoonest result rest t end → IsSoonest until (entry.now ∷ rest) t end }
-    ensures ticks { steps.new ≡ steps.old + 2 }
+    ensures later { t <ℤ result }
+    ensures bound { result ≤ℤ LOCAL_END }
+    ensures ticks { steps.new ≤ steps.old + 2 }
 {
+    if is_quiet(&entry.event, entry.daypart.as_ref(), t, until) {
+        append(marks, false);
+        return until;
+    }
     append(marks, is_active(entry, t, steps));
     sooner(until, next_edge(entry, t, steps))
 }

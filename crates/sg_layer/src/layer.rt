@@ -84,7 +84,7 @@ impl Layer {
     /// The slot that is shown at a local second; `None` where no normal entry is played and no play stands in.
     ///
     /// For a second in the kept segment nothing is asked. Else each entry is asked whether it is active and when that
-    /// changes next, which counts two steps, and the segment of the second is kept.
+    /// changes next, which counts two steps at most, and the segment of the second is kept.
     #[tactic(auto, unfolding(crate::specs::Shown::slot_at))]
     pub fn slot_at<L: Ledger>(&mut self, t: LocalSec, steps: &mut Steps<L>) -> Option<Slot>
         requires second { IsAskable t }
@@ -97,7 +97,7 @@ impl Layer {
             (self.new.kept ≡ self.old.kept) × (steps.new ≡ steps.old) }
         ensures anew { is_inside_of self.old.kept t ≡ false →
             IsKeptFrom (entries_of self.old) t self.new.kept
-            × (steps.new ≡ steps.old + 2 * length (entries_of self.old)) }
+            × (steps.new ≤ steps.old + 2 * length (entries_of self.old)) }
     {
         if !is_inside(self.kept, t) {
             self.build(t, steps);
@@ -111,7 +111,7 @@ impl Layer {
         ensures same { self.new ≡ record self.old { kept = self.new.kept } }
         ensures kept { IsKeptFrom (entries_of self.old) t self.new.kept }
         ensures inside { is_inside_of self.new.kept t ≡ true }
-        ensures ticks { steps.new ≡ steps.old + 2 * length (entries_of self.old) }
+        ensures ticks { steps.new ≤ steps.old + 2 * length (entries_of self.old) }
     {
         let end = fill(
             self.normal.as_slice(),
@@ -182,7 +182,7 @@ fn fill<L: Ledger>(
     ensures room { HasRoom (length normal.now) (length interrupts.now) room.new }
     ensures holds { Holds (record { normal = normal.now; interrupts = interrupts.now; default = default; kept = None }) t result room.new }
     ensures later { t <ℤ result }
-    ensures ticks { steps.new ≡ steps.old + 2 * (length interrupts.now + length normal.now) }
+    ensures ticks { steps.new ≤ steps.old + 2 * (length interrupts.now + length normal.now) }
 {
     let end = ask(interrupts, t, hour_end(t), steps, &mut room.active);
     list_interrupts(interrupts, room.active.as_slice(), &mut room.sharing);

@@ -55,7 +55,7 @@ impl Overlays {
 
     /// What is shown above the picture at a local second, if an overlay is active. It takes no memory.
     ///
-    /// For a second in the kept segment no event is asked. Else each event of layer 1 is asked twice, and the segment
+    /// For a second in the kept segment no event is asked. Else each event of layer 1 is asked at most twice, and the segment
     /// that begins at the second is kept: it ends with the second's hour, or where such an event may change.
     pub fn over_at<L: Ledger>(&mut self, t: LocalSec, steps: &mut Steps<L>) -> Option<Show>
         requires second { IsAskable t }
@@ -70,7 +70,7 @@ impl Overlays {
         ensures kept { is_inside self.old.kept t ≡ false →
             IsKeptFrom (entries_of (overlay_layer self.old.snapshot None)) t self.new.kept }
         ensures ticks { is_inside self.old.kept t ≡ false →
-            steps.new ≡ steps.old + 2 * length (overlay_events self.old.snapshot) }
+            steps.new ≤ steps.old + 2 * length (overlay_events self.old.snapshot) }
     {
         let Some(slot) = self.layer.slot_at(t, steps) else {
             return None;

@@ -73,7 +73,7 @@ impl Resolver {
 
     /// What is shown at a local second. It takes no memory.
     ///
-    /// For a second in the kept segment no event is asked. Else each event of layer 0 is asked twice, and the segment
+    /// For a second in the kept segment no event is asked. Else each event of layer 0 is asked at most twice, and the segment
     /// that begins at the second is kept: it ends with the second's hour, or where such an event may change.
     pub fn show_at<L: Ledger>(&mut self, t: LocalSec, steps: &mut Steps<L>) -> Show
         requires second { IsAskable t }
@@ -88,7 +88,7 @@ impl Resolver {
         ensures kept { is_inside self.old.kept t ≡ false →
             IsKeptFrom (entries_of (picture_layer self.old.snapshot None)) t self.new.kept }
         ensures ticks { is_inside self.old.kept t ≡ false →
-            steps.new ≡ steps.old + 2 * length (picture_events self.old.snapshot) }
+            steps.new ≤ steps.old + 2 * length (picture_events self.old.snapshot) }
     {
         match self.layer.slot_at(t, steps) {
             Some(slot) => show_of(t, slot),

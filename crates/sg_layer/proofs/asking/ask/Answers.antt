@@ -24,6 +24,8 @@ loop-entry-preserved g c =
       few = omega (arith, ap (λ (ms : List Bool). length ms) one.ensures.marks, length-append c.loop-entry.marks.items (is_active c.args.t x ∷ []), before.few);
       room = omega (arith, one.ensures.room, before.room);
       soonest = λ rest end h. before.soonest rest end (subst (λ (ys : List Entry). IsSoonest c.loop-entry.soonest (ys ++ rest) c.args.t end) (sym next) (one.ensures.soonest (drop (i + 1) xs ++ rest) end h));
+      later = one.ensures.later;
+      bound = one.ensures.bound;
       ticks = omega (arith, one.ensures.ticks, before.ticks);
     }
 

@@ -1,4 +1,5 @@
-use Rattle.std.proofs.Common.{◌≡◌, ◌+◌, ◌*◌, ◌≤◌, ◌++◌, List, map, drop, vec_len, vec_capacity, ℤ}
+use Rattle.std.proofs.Common.{◌≡◌, ◌+◌, ◌*◌, ◌≤◌, ◌++◌, List, map, drop, vec_len, vec_capacity, ℤ, ◌<ℤ◌, ◌≤ℤ◌}
+use Rattle.sg_base.specs.declared.limits.TheConstants.{LOCAL_END}
 use Rattle.sg_layer.specs.declared.entry.Entry.{Entry}
 use Rattle.sg_layer.specs.Lists.{is_active}
 use Rattle.sg_layer.specs.Segment.{IsSoonest}
@@ -10,5 +11,7 @@ invariant-loop-entry g l = record {
   few : vec_len l.marks ≤ l.entry-index;
   room : vec_capacity l.fn.marks ≤ vec_capacity l.marks;
   soonest : (rest : List Entry) (end : ℤ) → IsSoonest l.soonest (drop l.entry-index l.entries ++ rest) l.t end → IsSoonest l.fn.until (l.entries ++ rest) l.t end;
-  ticks : l.steps ≡ l.fn.steps + 2 * l.entry-index;
+  later : l.t <ℤ l.soonest;
+  bound : l.soonest ≤ℤ LOCAL_END;
+  ticks : l.steps ≤ l.fn.steps + 2 * l.entry-index;
 }
