@@ -1,0 +1,5 @@
+pub mod Plays
+pub mod Lines
+pub mod Report
+pub mod Counting
+pub mod Writing
