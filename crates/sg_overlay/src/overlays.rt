@@ -1,6 +1,6 @@
 //! The overlays of a snapshot, ready to be asked what they show.
 
-ghost use Rattle.std.specs.Prelude.{◌≡◌, ◌+◌, ◌*◌, true, false, None, length, Contains, IfOk, IfSome};
+ghost use Rattle.std.specs.Prelude.{◌≡◌, ◌+◌, ◌*◌, ◌≤◌, true, false, None, length, Contains, IfOk, IfSome};
 ghost use Rattle.sg_base.specs.Seconds.{IsAskable};
 
 use sg_base::{LocalSec, Steps};

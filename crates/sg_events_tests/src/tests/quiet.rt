@@ -1,13 +1,20 @@
-//! Hours that the time of day alone keeps an event out of, worked by hand. Days are counted from 1970-01-01.
+//! Hours that the time of day alone keeps an event out of, worked by hand: hours of day 9,000 after 1970-01-01.
 
-use super::{FROM_TEN_TO_TEN, HOUR_OF_TEN, LATE_NIGHT, MORNING, NIGHT, daypart, event, repeat_of};
-use sg_base::{DaypartId, LocalSec, Unit, When, Window};
+ghost use Rattle.std.specs.Prelude.{pos, ◌+ℤ◌, ◌≤ℤ◌, option_map};
+ghost use Rattle.sg_base.specs.Seconds.{IsAskable};
+ghost use Rattle.sg_events.specs.Active.{HasDaypart};
+
+use super::{HOUR_OF_TEN, MORNING, NIGHT, daypart, event, repeat_of};
+use sg_base::limits::{FIRST_LOCAL, LOCAL_END};
+use sg_base::{Daypart, DaypartId, Event, LocalSec, Unit, When};
 use sg_events::is_quiet;
+use std::process::Abort;
 use std::test::Fail;
 
-const HOUR: i64 = 3_600;
+/// The first second of an hour, and whether that hour is quiet.
+type Hours = &'static [(i64, bool)];
 
-const DAY: i64 = 86_400;
+const HOUR: i64 = 3_600;
 
 // From 9:30 to 10:30 of day 0.
 const RUN: When = When::Custom {
@@ -21,60 +28,60 @@ const NIGHT_RUN: When = When::Custom {
     to: 93_600,
 };
 
+fn is_hour_quiet(event: &Event, daypart: Option<&Daypart>, t: i64) -> bool
+    requires second { IsAskable t }
+    requires bound { (t +ℤ pos 3_600) ≤ℤ LOCAL_END }
+    requires daypart { HasDaypart event.now.when (option_map (λ d. d.now) daypart) }
+{
+    is_quiet(event, daypart, LocalSec::new(t), LocalSec::new(t + HOUR))
+}
+
+fn check(rt: &impl Abort, event: &Event, daypart: Option<&Daypart>, hours: Hours)
+    requires { HasDaypart event.now.when (option_map (λ d. d.now) daypart) }
+{
+    for (t, quiet) in hours {
+        assert!(rt; FIRST_LOCAL <= *t && *t < LOCAL_END);
+        assert!(rt; *t + HOUR <= LOCAL_END);
+        assert_eq!(rt; is_hour_quiet(event, daypart, *t), *quiet, "from {t} on");
+    }
+}
+
 #[test]
 fn an_hour_that_the_time_of_day_keeps_an_event_out_of_is_quiet(
     rt: HostRuntime,
 ) -> Result<(), Fail> {
     let daily = event(RUN, repeat_of(Some((Unit::Day, 1, 0, None)))?)?;
-    let hours = [
-        (8, true, "before the run"),
-        (9, false, "it begins"),
-        (10, false, "it is over"),
-        (11, true, "after the run"),
+    // At 8, at 9, at 10 and at 11.
+    let hours = &[
+        (777_628_800, true),
+        (777_632_400, false),
+        (777_636_000, false),
+        (777_639_600, true),
     ];
-    for (hour, quiet, what) in hours {
-        let t = 9_000 * DAY + hour * HOUR;
-        let found = is_quiet(&daily, None, LocalSec::new(t), LocalSec::new(t + HOUR));
-        assert_eq!(rt; found, quiet, "{what}");
-    }
+    check(&rt, &daily, None, hours);
     Ok(())
 }
 
 #[test]
 fn a_run_past_midnight_takes_the_next_morning(rt: HostRuntime) -> Result<(), Fail> {
     let monthly = event(NIGHT_RUN, repeat_of(Some((Unit::Month, 1, 0, None)))?)?;
-    for (hour, quiet) in [(1, false), (2, true), (21, true), (22, false), (23, false)] {
-        let t = 9_000 * DAY + hour * HOUR;
-        let found = is_quiet(&monthly, None, LocalSec::new(t), LocalSec::new(t + HOUR));
-        assert_eq!(rt; found, quiet, "hour {hour}");
-    }
+    // At 1, at 2, at 21 and at 22.
+    let hours = &[
+        (777_603_600, false),
+        (777_607_200, true),
+        (777_675_600, true),
+        (777_679_200, false),
+    ];
+    check(&rt, &monthly, None, hours);
     Ok(())
 }
 
 #[test]
-fn what_has_no_time_of_day_is_never_known_to_be_quiet(rt: HostRuntime) -> Result<(), Fail> {
+fn an_hourly_repeat_is_never_known_to_be_quiet(rt: HostRuntime) -> Result<(), Fail> {
     let hourly = event(RUN, repeat_of(Some((Unit::Hour, 5, 0, None)))?)?;
-    let always = event(When::Always, None)?;
-    let (t, until) = (
-        LocalSec::new(9_000 * DAY),
-        LocalSec::new(9_000 * DAY + HOUR),
-    );
-    assert_eq!(rt; is_quiet(&hourly, None, t, until), false);
-    assert_eq!(rt; is_quiet(&always, None, t, until), false);
+    check(&rt, &hourly, None, &[(777_600_000, false)]);
     Ok(())
 }
-
-// The usual window, whether it has an exception on Sundays, the hour, and whether that is quiet.
-const WINDOWS: [(Window, bool, i64, bool); 8] = [
-    (HOUR_OF_TEN, false, 9, true),
-    (HOUR_OF_TEN, false, 10, false),
-    (HOUR_OF_TEN, false, 11, true),
-    (NIGHT, false, 1, false),
-    (NIGHT, false, 3, true),
-    (LATE_NIGHT, false, 19, true),
-    (FROM_TEN_TO_TEN, false, 9, false),
-    (HOUR_OF_TEN, true, 3, false),
-];
 
 #[test]
 fn a_window_without_exceptions_is_quiet_outside(rt: HostRuntime) -> Result<(), Fail> {
@@ -82,18 +89,30 @@ fn a_window_without_exceptions_is_quiet_outside(rt: HostRuntime) -> Result<(), F
         daypart: DaypartId(1),
         date: 0,
     };
-    let event = event(named, repeat_of(Some((Unit::Day, 1, 0, None)))?)?;
-    for (usual, on_sundays, hour, quiet) in WINDOWS {
-        let exception = if on_sundays { Some((7, MORNING)) } else { None };
-        let daypart = daypart(rt.alloc(), usual, exception, None)?;
-        let t = 9_000 * DAY + hour * HOUR;
-        let found = is_quiet(
-            &event,
-            Some(&daypart),
-            LocalSec::new(t),
-            LocalSec::new(t + HOUR),
-        );
-        assert_eq!(rt; found, quiet, "hour {hour}");
-    }
+    let daily = event(named, repeat_of(Some((Unit::Day, 1, 0, None)))?)?;
+    let alloc = rt.alloc();
+    // At 9, at 10 and at 11.
+    let ten = daypart(alloc, HOUR_OF_TEN, None, None)?;
+    check(
+        &rt,
+        &daily,
+        Some(&ten),
+        &[
+            (777_632_400, true),
+            (777_636_000, false),
+            (777_639_600, true),
+        ],
+    );
+    // At 1 and at 3.
+    let night = daypart(alloc, NIGHT, None, None)?;
+    check(
+        &rt,
+        &daily,
+        Some(&night),
+        &[(777_603_600, false), (777_610_800, true)],
+    );
+    // At 3, with another window on Sundays.
+    let other = daypart(alloc, HOUR_OF_TEN, Some((7, MORNING)), None)?;
+    check(&rt, &daily, Some(&other), &[(777_610_800, false)]);
     Ok(())
 }
