@@ -1,0 +1,5 @@
+pub mod State
+pub mod Edits
+pub mod Step
+pub mod Calls
+pub mod Epochs
