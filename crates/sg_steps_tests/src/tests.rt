@@ -21,9 +21,7 @@ const GROUP: &str = r#"{"op":"insert","kind":"group","row":{"id":3}}"#;
 const MEDIUM: &str =
     r#"{"op":"insert","kind":"media","row":{"id":1,"length":3,"md5":"900150983cd24fb0d6963f7d28e17f72"}}"#;
 
-fn edit_of(alloc: Global, text: &str) -> Result<Edit, Fail>
-    ensures { IfOk result (λ edit. IsEdit edit) }
-{
+fn edit_of(alloc: Global, text: &str) -> Result<Edit, Fail> {
     let value = Value::from_str(alloc, text)?;
     Ok(read_edit(alloc, &value)?)
 }
@@ -164,13 +162,21 @@ fn one_client_too_many_is_refused(rt: HostRuntime) -> Result<(), Fail> {
     Ok(())
 }
 
+// The edit that inserts a group.
+fn group(alloc: Global) -> Result<Edit, Fail>
+    ensures { IfOk result (λ edit. IsEdit edit) }
+{
+    let value = Value::from_str(alloc, GROUP)?;
+    Ok(read_edit(alloc, &value)?)
+}
+
 #[test]
 fn the_keeper_changes_with_the_table_or_neither_does(rt: HostRuntime) -> Result<(), Fail> {
     let alloc = rt.alloc();
     let mut clients = Sorted::new(alloc);
     let mut keeper = MapKeeper::new(alloc);
     keeper.set_stop(Some(0));
-    let changes = changes_of(alloc, &Tables::new(alloc), &edit_of(alloc, GROUP)?)?;
+    let changes = changes_of(alloc, &Tables::new(alloc), &group(alloc)?)?;
     let known = Client {
         client: 1,
         last: 1,
