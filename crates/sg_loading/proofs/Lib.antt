@@ -1,0 +1,6 @@
+pub mod RowLemmas
+pub mod LawLemmas
+pub mod OneRow
+pub mod MediumLemmas
+pub mod PageLemmas
+pub mod RunLemmas
