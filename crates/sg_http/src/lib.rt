@@ -25,3 +25,4 @@ pub use reading::{ReplyRead, read_reply};
 pub use reply::{Form, ReplyHead, reply_bytes};
 pub use request::request_bytes;
 pub use search::{Progress, START};
+pub use text::number;

@@ -6,7 +6,7 @@ ghost use Rattle.httparse.specs.Grammar.{is_ows, skip_ows, trim_ows};
 ghost use Rattle.sg_http.specs.Fields.{is_number, asks_to_close};
 
 /// The number that digits write, or `most` where it is more. `None` where they aren't digits alone, or there are none.
-pub(crate) fn number(value: &[u8], most: u64) -> Option<u64>
+pub fn number(value: &[u8], most: u64) -> Option<u64>
     requires { most ≤ 2 ^ 40 }
     ensures { result ≡
         (if is_number value.now then Some (min (digits_value 10 value.now) most) else None) }
