@@ -1,3 +1,4 @@
+pub mod Blame
 pub mod Exchanges
 pub mod Folder
 pub mod Memory

@@ -1,0 +1,4 @@
+pub mod Asking
+pub mod Ends
+pub mod Heard
+pub mod Requests
