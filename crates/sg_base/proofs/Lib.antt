@@ -5,3 +5,4 @@ pub mod DaypartLemmas
 pub mod RisingLemmas
 pub mod IndexLemmas
 pub mod StopLemmas
+pub mod TextLemmas

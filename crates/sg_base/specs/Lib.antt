@@ -13,3 +13,4 @@ pub mod Ranks
 pub mod Rising
 pub mod Tables
 pub mod Index
+pub mod Texts

@@ -24,6 +24,7 @@ pub use row::{DisplayRow, EventRow, Row};
 pub use search::index_of;
 pub use sorted::{Rank, Ranked, Sorted};
 pub use steps::Steps;
+pub use text::{is_key, is_short};
 pub use time::{LocalSec, Moment};
 pub use zone::ZoneRule;
 
@@ -46,5 +47,6 @@ mod row;
 mod search;
 mod sorted;
 mod steps;
+mod text;
 mod time;
 mod zone;

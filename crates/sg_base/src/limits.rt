@@ -70,6 +70,11 @@ pub const MAX_FEW: usize = 32;
 /// The most letters and digits of a key.
 pub const MAX_KEY: usize = 64;
 
+// ---- the command line
+
+/// The most bytes of a path or an address.
+pub const MAX_PLACE: usize = 255;
+
 // ---- files
 
 /// The most bytes of a file.

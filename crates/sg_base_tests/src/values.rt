@@ -2,7 +2,7 @@
 
 ghost use Rattle.std.specs.Prelude.{◌≡◌, ◌<◌};
 
-use sg_base::{Kind, LimitName, LocalSec, Moment, Rows, Steps};
+use sg_base::{Kind, LimitName, LocalSec, Moment, Rows, Steps, is_key};
 use std::marker::Brand;
 use std::sync::ledger::{Blank, Ledger};
 use std::test::Fail;
@@ -91,4 +91,17 @@ fn count<L: Ledger>(blank: Blank)
 fn counts_in_no_room(rt: HostRuntime) {
     count::<Brand>(Blank::new(1));
     assert_eq!(rt; size_of::<Steps<Brand>>(), 0);
+}
+
+#[test]
+fn a_key_has_letters_and_digits(rt: HostRuntime) -> Result<(), Fail> {
+    let longest = "abcdefghijklmnopqrstuvwxyzABCDEFGHIJKLMNOPQRSTUVWXYZ0123456789zz";
+    let longer = format!(in rt.alloc(); "{longest}0")?;
+    assert_eq!(rt; (longest.len(), longer.len()), (64, 65));
+    assert!(rt; !is_key(longer.as_bytes()));
+    let keys = ["k", "0", "Z9", longest];
+    let others = ["", "a b", "a-b", "a_b", "ä", "a/", "a\n"];
+    assert!(rt; keys.iter().all(|word| is_key(word.as_bytes())));
+    assert!(rt; !others.iter().any(|word| is_key(word.as_bytes())));
+    Ok(())
 }

@@ -1,9 +1,9 @@
 -- The rows of edits: those of a manifest, groups, displays, and events with displays and groups. Their JSON, when they
 -- are valid, and which row JSON says, in each form.
-use Rattle.std.specs.Prelude.{◌≡◌, ◌≢◌, ℕ, ◌+◌, ◌<◌, ◌&&◌, ◌||◌, true, nat_lt, nat_le, Bool, List, [], ◌∷◌, map, codes, length, IsTrue, Result, Ok, Err}
-use Rattle.std.specs.List.{AllByRecursion, list_all}
+use Rattle.std.specs.Prelude.{◌≡◌, ◌≢◌, ℕ, ◌+◌, ◌<◌, ◌&&◌, true, nat_lt, nat_le, Bool, List, [], ◌∷◌, map, codes, length, IsTrue, Result, Ok, Err}
+use Rattle.std.specs.List.{AllByRecursion}
 use Rattle.serde_json.specs.Data.{Data, string, object, Members, member, no_members}
-use Rattle.sg_base.specs.declared.limits.TheConstants.{MAX_FEW, MAX_KEY}
+use Rattle.sg_base.specs.declared.limits.TheConstants.{MAX_FEW}
 use Rattle.sg_base.specs.declared.ids.GroupId.{GroupId}
 use Rattle.sg_rows.specs.declared.fault.RowFault.{RowFault}
 use Rattle.sg_rows.specs.declared.fault.RowFault.TheVariants.{Shape}
@@ -15,6 +15,7 @@ use Rattle.sg_base.specs.declared.row.Row.{Row}
 use Rattle.sg_base.specs.declared.row.Row.TheVariants as row
 use Rattle.sg_base.specs.declared.row.DisplayRow.{DisplayRow}
 use Rattle.sg_base.specs.declared.row.EventRow.{EventRow}
+use Rattle.sg_base.specs.Texts.{is_key}
 use Rattle.sg_rows.specs.Faults.{◌>>=◌, needs}
 use Rattle.sg_rows.specs.Ids.{IsGroup, IsDisplayId, group_id_json, display_id_json, group_id_at, display_id_at}
 use Rattle.sg_rows.specs.Parts.{exactly, member_at, id_at, text_at, list_at}
@@ -52,14 +53,6 @@ group_at d = do
   Ok (record { 0 = id })
 
 -- ---- displays
-
--- a letter or a digit of ASCII
-abbrev pub is_key_byte : ℕ → Bool
-is_key_byte b = (nat_le 48 b && nat_le b 57) || (nat_le 65 b && nat_le b 90) || (nat_le 97 b && nat_le b 122)
-
--- a key: one of them at least
-abbrev pub is_key : List ℕ → Bool
-is_key bytes = (nat_lt 0 (length bytes) && nat_le (length bytes) MAX_KEY) && list_all is_key_byte bytes
 
 abbrev pub key_at : Data → Result (List ℕ) RowFault
 key_at d = text_at d >>= (λ text. needs (is_key text) Shape >>= (λ key. Ok text))
