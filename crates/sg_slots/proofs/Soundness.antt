@@ -162,7 +162,7 @@ slots_pass : (room : ℕ) (c : List ℕ) → IsSound room Zero c → IsSound roo
 slots_pass room c first second twin =
     both_pass _ _ first.entries (both_pass _ _ second.entries (both_pass _ _ twin (both_pass _ _ first.apart second.apart)))
 
-slots_sound : (room number : ℕ) (text : Option (List ℕ)) (files : List StoredFile) (c : List ℕ) → room ≤ MAX_ROOM → MatchOption text ((number ≡ 0) × (files ≡ [])) (λ t. IsSnapshot room number t files) → AreSlots room number text files (slot_of Zero c) (slot_of One c) → slots_damage room c ≡ None
+pub slots_sound : (room number : ℕ) (text : Option (List ℕ)) (files : List StoredFile) (c : List ℕ) → room ≤ MAX_ROOM → MatchOption text ((number ≡ 0) × (files ≡ [])) (λ t. IsSnapshot room number t files) → AreSlots room number text files (slot_of Zero c) (slot_of One c) → slots_damage room c ≡ None
 slots_sound room number None files c small none slots =
     let first : head_at Zero c ≡ None = head_closed Zero c (λ opened. slots.0 (gate_of Zero c ∙ opened)) in
     let second : head_at One c ≡ None = head_closed One c (λ opened. slots.1 (gate_of One c ∙ opened)) in

@@ -160,8 +160,8 @@ fn check_fields(size: u64, header: &Format) -> Result<(), OpenFault>
     Ok(())
 }
 
-// Whether a data area may have this length.
-fn is_room(room: u64) -> bool
+/// Whether a data area may have this length.
+pub fn is_room(room: u64) -> bool
     ensures { result ≡ is_room room }
 {
     ROOM_UNIT <= room && room <= MAX_ROOM && room % ROOM_UNIT == 0

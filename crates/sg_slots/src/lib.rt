@@ -16,11 +16,11 @@ mod slot_reads;
 mod slot_writes;
 mod slots;
 
-pub use entries::placed_in;
+pub use entries::{placed_in, u32_in, u64_in};
 pub use fault::OpenFault;
 pub use formats::Format;
-pub use header::{header_fields_of, read_header};
-pub use pair::{SlotPair, read_slots};
-pub use slot_reads::damage;
+pub use header::{header_fields_of, is_room, read_header};
+pub use pair::{SlotPair, choose, read_slots};
+pub use slot_reads::{check_head, damage, read_head, read_table, set_len};
 pub use slot_writes::{fill_slot, fill_table, head_fields_of};
 pub use slots::{Head, Slot};

@@ -24,8 +24,8 @@ pub struct SlotPair {
     pub spare: Slot,
 }
 
-// Chooses the slot that a switch writes: one whose gate is closed, or the one of the lower number.
-fn choose(zero: &Option<Head>, one: &Option<Head>) -> Result<Slot, OpenFault>
+/// Chooses the slot that a switch writes: one whose gate is closed, or the one of the lower number.
+pub fn choose(zero: &Option<Head>, one: &Option<Head>) -> Result<Slot, OpenFault>
     ensures damaged { (place found : ℕ) → IsErrOf result (OpenFault.Damaged place found)
         → twin_damage zero.now one.now ≡ Some (record { place = place; found = found }) }
     ensures only { OnErr result ((place : ℕ) × (found : ℕ)

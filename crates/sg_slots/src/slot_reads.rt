@@ -16,8 +16,8 @@ use sg_base::limits::{MANIFEST_FILES, MANIFEST_TEXT, MAX_FILE_LEN, MAX_ROOM};
 use sg_disk::{COUNT, DATA, Disk, DiskFailed, ENTRY_LEN, NUMBER, TABLE, TABLE_LEN, TEXT_LEN};
 use sg_placing::{Placed, Shelf};
 
-// The fields of a slot whose gate is open. It makes one call.
-fn read_head<D: Disk>(disk: &mut D, slot: Slot) -> Result<Option<Head>, DiskFailed>
+/// The fields of a slot whose gate is open. It makes one call.
+pub fn read_head<D: Disk>(disk: &mut D, slot: Slot) -> Result<Option<Head>, DiskFailed>
     requires disk { DATA ≤ (D.view disk.old).size }
     ensures head { IfOk result (λ h. (D.view disk.old).told
         → h ≡ head_at slot (D.view disk.old).bytes) }
@@ -38,8 +38,8 @@ fn read_head<D: Disk>(disk: &mut D, slot: Slot) -> Result<Option<Head>, DiskFail
     }))
 }
 
-// Looks at the fields of an open slot.
-fn check_head(slot: Slot, head: &Head) -> Result<(), OpenFault>
+/// Looks at the fields of an open slot.
+pub fn check_head(slot: Slot, head: &Head) -> Result<(), OpenFault>
     ensures damaged { (place found : ℕ) → IsErrOf result (OpenFault.Damaged place found)
         → fields_damage (slot_place slot) (Some head.now)
         ≡ Some (record { place = place; found = found }) }
@@ -72,8 +72,8 @@ pub fn damage(place: u64, found: u32) -> OpenFault
     }
 }
 
-// Gives a buffer a length that it has room for.
-fn set_len(buffer: &mut Vec<u8>, len: usize)
+/// Gives a buffer a length that it has room for.
+pub fn set_len(buffer: &mut Vec<u8>, len: usize)
     requires { len ≤ vec_capacity buffer.old }
     ensures len { vec_len buffer.new ≡ len }
     ensures room { vec_capacity buffer.old ≤ vec_capacity buffer.new }
@@ -84,8 +84,8 @@ fn set_len(buffer: &mut Vec<u8>, len: usize)
     }
 }
 
-// Reads the first entries of a slot's table, in one call.
-fn read_table<D: Disk>(
+/// Reads the first entries of a slot's table, in one call.
+pub fn read_table<D: Disk>(
     disk: &mut D,
     slot: Slot,
     count: u32,
