@@ -1,3 +1,4 @@
 pub mod FileLemmas
 pub mod PageLemmas
 pub mod BothLemmas
+pub mod HeadLemmas

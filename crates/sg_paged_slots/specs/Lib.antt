@@ -1,2 +1,4 @@
 pub mod PagedDamage
 pub mod Both
+pub mod Headers
+pub mod PagedSlots

@@ -1,5 +1,5 @@
 // The map of a slot.
-ghost use Rattle.std.specs.Prelude.{◌≡◌, ℕ, ◌+◌, ◌*◌, ◌/◌, ◌≤◌, [], length, sum_by, OnOk, OnErr, IsErrOf, None, Some, All};
+ghost use Rattle.std.specs.Prelude.{◌≡◌, ℕ, ◌+◌, ◌*◌, ◌/◌, ◌<◌, ◌≤◌, [], length, sum_by, OnOk, OnErr, IsErrOf, None, Some, All};
 ghost use Rattle.sg_disk.specs.Contents.{IsRoom};
 ghost use Rattle.sg_pages.specs.Maps.{pages_of};
 ghost use Rattle.sg_pages.specs.Shelves.{pages_for, IsFilled, IsPlacedIn};
@@ -32,6 +32,7 @@ pub fn read_pages(
     ensures pages { OnOk result (files.new.pages
         ≡ pages_of map.now (sum_by pages_for files.old.files)) }
     ensures filled { OnOk result (IsFilled files.new) }
+    ensures inside { OnOk result (All (λ page. page < room / PAGE) files.new.pages) }
 
     // Why it is refused.
     ensures damaged { (place found : ℕ) → IsErrOf result (OpenFault.Damaged place found)

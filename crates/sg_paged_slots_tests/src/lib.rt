@@ -3,4 +3,6 @@
 #![tactic(auto)]
 
 #[cfg(test)]
+mod headers;
+#[cfg(test)]
 mod tests;
