@@ -18,7 +18,7 @@ use Rattle.sg_rows.proofs.SoundRows.{id_sound, layout_sound, campaign_sound, und
 use Rattle.sg_edit_rows.specs.EditRows.{IsDisplay, IsScheduled, IsEventIn, IsRow, group_json, display_json, scheduled_members, scheduled_json, event_row_json, row_json}
 use Rattle.sg_edit_rows.specs.Older.{is_older_event, older_scheduled_json, older_json}
 use Rattle.sg_edit_rows.proofs.AgainEdits.{json_if}
-use Rattle.sg_edit_rows.proofs.KeyLemmas.{utf8_of_key}
+use Rattle.sg_base.proofs.TextLemmas.{utf8_of_key}
 
 group_id_sound : (g : GroupId) → IsGroup g → Sound 3 (group_id_json g)
 group_id_sound g h = id_sound _ h

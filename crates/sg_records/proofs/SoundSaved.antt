@@ -14,7 +14,7 @@ use Rattle.sg_base.specs.Names.{kind_name}
 use Rattle.sg_edit_rows.specs.EditRows.{IsDisplay, IsRow, IsScheduled, display_json, row_json, scheduled_json}
 use Rattle.sg_edit_rows.specs.Older.{is_older_event, older_json, older_scheduled_json}
 use Rattle.sg_edit_rows.proofs.AgainEdits.{json_if}
-use Rattle.sg_edit_rows.proofs.KeyLemmas.{utf8_of_key}
+use Rattle.sg_base.proofs.TextLemmas.{utf8_of_key}
 use Rattle.sg_rows.specs.declared.form.RowForm.TheVariants.{Edit}
 use Rattle.sg_rows.specs.Ids.{IsDisplayId, IsGroup, display_id_json, group_id_json}
 use Rattle.sg_rows.specs.Text.{undated_json, whole}
