@@ -1,0 +1,3 @@
+pub mod SwitchLemmas
+pub mod FillLemmas
+pub mod StepLemmas
