@@ -1,0 +1,4 @@
+pub mod ShelfLemmas
+pub mod PageLemmas
+pub mod ChoiceLemmas
+pub mod StageLemmas
