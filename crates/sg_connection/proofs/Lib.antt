@@ -1,0 +1,4 @@
+pub mod ExchangeLemmas
+pub mod RefusalLemmas
+pub mod TakeLemmas
+pub mod TurnLemmas

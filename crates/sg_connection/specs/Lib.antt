@@ -1,0 +1,4 @@
+pub mod Exchanges
+pub mod Taking
+pub mod Serving
+pub mod Turns
