@@ -1,0 +1,3 @@
+pub mod Options
+pub mod Table
+pub mod Places
