@@ -137,14 +137,15 @@ const CASES: [Case; 15] = [
 
 // A disk with this header.
 fn disk_of(alloc: Global, case: &Case) -> Result<MemDisk, Fail> {
+    let (mark, second) = (case.mark, case.second);
     let mut bytes = Vec::new(alloc);
     bytes.push(case.gate)?;
     bytes.extend_from_slice(&[0; 3])?;
     bytes.extend_from_slice(&case.version)?;
-    bytes.extend_from_slice(case.mark)?;
+    bytes.extend_from_slice(mark)?;
     bytes.extend_from_slice(&[case.fields.0, 0, 0, 0, case.fields.1, 0, 0, 0])?;
     bytes.extend_from_slice(&[0, 0, 1, 0, 0, 0, 0, 0])?;
-    bytes.extend_from_slice(case.second)?;
+    bytes.extend_from_slice(second)?;
     bytes.resize(case.len, 0)?;
     Ok(MemDisk::new(alloc, bytes)?)
 }
