@@ -1,0 +1,4 @@
+pub mod Plays
+pub mod Rounds
+pub mod Scenes
+pub mod Seconds
