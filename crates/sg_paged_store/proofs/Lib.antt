@@ -1,2 +1,3 @@
 pub mod OpeningLemmas
 pub mod StagingLemmas
+pub mod SwitchLemmas
