@@ -57,11 +57,11 @@ not_staged None file g alone differ = refl
 not_staged (Some p) file g alone differ =
     ap (λ (same : Bool). if same then p.1 else 0) (apart p.0 g (λ same. differ (sym (same_media p.0 file alone.0) ∙ same)))
 
-alone_lacks : (part : Option (Listed × ℕ)) (file : Listed) → IsAlone part file → staged_of part file < file.length
+pub alone_lacks : (part : Option (Listed × ℕ)) (file : Listed) → IsAlone part file → staged_of part file < file.length
 alone_lacks None file alone = omega (arith, alone)
 alone_lacks (Some p) file alone = subst (λ (same : Bool). (if same then p.1 else 0) < file.length) (sym alone.0) alone.1
 
-same_self : (f : Listed) → same_file f f ≡ true
+pub same_self : (f : Listed) → same_file f f ≡ true
 same_self f = and_from (f.media.0 == f.media.0) _ (eq-eqb f.media.0 f.media.0 refl)
     (and_from (f.length == f.length) _ (eq-eqb f.length f.length refl) (nat_list_eq_equiv.refl f.md5))
 
@@ -74,7 +74,7 @@ or_true true = refl
 or_true false = refl
 
 -- what is held after bytes of a file, by whether these were its last
-abbrev came : Holding → Listed → ℕ → Bool → Holding
+abbrev pub came : Holding → Listed → ℕ → Bool → Holding
 came here file count last =
     if last then holding (λ f. here.holds f || same_file file f) None else holding here.holds (Some (file, staged_of here.part file + count))
 

@@ -1,3 +1,4 @@
 pub mod FileLemmas
 pub mod PieceLemmas
+pub mod RunLemmas
 pub mod WantedLemmas

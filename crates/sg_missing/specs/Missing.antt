@@ -1,5 +1,5 @@
 -- What is missing of the files of a manifest.
-use Rattle.std.specs.Prelude.{◌≡◌, ℕ, ◌+◌, ◌<◌, ◌≤◌, ◌==◌, ◌||◌, Bool, true, false, List, [], ◌∷◌, ◌++◌, Option, None, Some, map, slice_get, IsSomeAnd, if◌then◌else◌, ⊤}
+use Rattle.std.specs.Prelude.{zero, suc, ◌-◌, ◌≡◌, ℕ, ◌+◌, ◌<◌, ◌≤◌, ◌==◌, ◌||◌, Bool, true, false, List, [], ◌∷◌, ◌++◌, Option, None, Some, map, slice_get, IsSomeAnd, if◌then◌else◌, ⊤}
 use Rattle.std.specs.List.{All, AllPairs}
 use Rattle.sg_base.specs.declared.file.Listed.{Listed}
 use Rattle.sg_placing.specs.Placing.{same_file}
@@ -72,3 +72,22 @@ is_one_of (Some part) (Some file) = same_file part.0 file
 -- the file of which a part is staged is the first that isn't whole
 abbrev pub keeps_part : Holding → List Listed → Bool
 keeps_part here files = is_one_of here.part (first_missing here.holds files)
+
+-- what is held after the first of these pieces that is missing came whole
+abbrev pub with_piece : Holding → Option Listed → Holding
+with_piece here None = here
+with_piece here (Some file) = with_bytes here file (piece_end (staged_of here.part file) file.length - staged_of here.part file)
+
+-- what is held after so many pieces of these files came whole, each when it was the first that was missing
+abbrev pub after_pieces : ℕ → Holding → List Listed → Holding
+after_pieces zero here files = here
+after_pieces (suc more) here files = after_pieces more (with_piece here (first_missing here.holds files)) files
+
+-- nothing is staged in part but bytes of the first file that isn't whole
+abbrev pub IsOf : Option (Listed × ℕ) → Option Listed → Type 0
+IsOf None first = ⊤
+IsOf (Some part) None = ⊥
+IsOf (Some part) (Some file) = (same_file part.0 file ≡ true) × (part.1 < file.length)
+
+abbrev pub IsUnderWay : Holding → List Listed → Type 0
+IsUnderWay here files = IsOf here.part (first_missing here.holds files)
