@@ -1,0 +1,12 @@
+pub mod ServerLemmas
+pub mod StandLemmas
+pub mod EditStands
+pub mod EpochStands
+pub mod StepLemmas
+pub mod AfterLemmas
+pub mod ExecuteLemmas
+pub mod KeeperLemmas
+pub mod ReadLemmas
+pub mod MediaLemmas
+pub mod PieceStands
+pub mod PieceCalls
