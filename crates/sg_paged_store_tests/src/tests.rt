@@ -79,7 +79,7 @@ struct Shown {
     text: [u8; 2],
 }
 
-fn shown(number: u32, text: &'static [u8; 2]) -> Shown {
+fn showing(number: u32, text: &'static [u8; 2]) -> Shown {
     Shown {
         number,
         files: 1,
@@ -122,9 +122,9 @@ fn show_bytes(alloc: Global, bytes: Vec<u8>) -> Result<(Shown, usize), Fail> {
 #[test]
 fn an_older_store_is_upgraded_as_it_is_opened(rt: HostRuntime) -> Result<(), Fail> {
     for (len, twice, wanted) in [
-        (OLD, false, shown(1, b"m1")),
-        (OLD, true, shown(2, b"m2")),
-        (NEW, true, shown(2, b"m2")),
+        (OLD, false, showing(1, b"m1")),
+        (OLD, true, showing(2, b"m2")),
+        (NEW, true, showing(2, b"m2")),
     ] {
         let found = show_bytes(rt.alloc(), old_store(rt.alloc(), len, twice)?)?;
         assert_eq!(rt; found, (wanted, NEW), "from {len} bytes");
@@ -137,7 +137,7 @@ fn a_store_of_the_new_format_is_read(rt: HostRuntime) -> Result<(), Fail> {
     // The version is 2, or any byte but 1 that a crash left.
     for version in [2, 0, 77, 255] {
         let found = show_bytes(rt.alloc(), new_store(rt.alloc(), version)?)?;
-        assert_eq!(rt; found, (shown(2, b"m2"), NEW), "version {version}");
+        assert_eq!(rt; found, (showing(2, b"m2"), NEW), "version {version}");
     }
     Ok(())
 }
@@ -149,7 +149,7 @@ fn an_opening_twice_shows_the_same(rt: HostRuntime) -> Result<(), Fail> {
     let calls = disk.begun();
     assert_eq!(rt; show(rt.alloc(), &mut disk)?, first);
     // Three for the header, three for each slot, and one for the manifest.
-    assert_eq!(rt; disk.begun() - calls, 10);
+    assert_eq!(rt; disk.begun().checked_sub(calls), Some(10));
     Ok(())
 }
 
@@ -185,7 +185,7 @@ fn images_show(alloc: Global, calls: u64, wanted: Shown) -> Result<bool, Fail> {
 #[test]
 fn a_crash_in_an_upgrade_leaves_the_snapshot(rt: HostRuntime) -> Result<(), Fail> {
     for calls in CALLS {
-        let kept = images_show(rt.alloc(), calls, shown(1, b"m1"))?;
+        let kept = images_show(rt.alloc(), calls, showing(1, b"m1"))?;
         assert!(rt; kept, "after {calls} calls");
     }
     Ok(())
@@ -257,5 +257,32 @@ fn a_page_that_a_range_touches_is_not_free(rt: HostRuntime) -> Result<(), Fail> 
     let two = NoSpace { need: 2, free: 0 };
     let longer = refusal(rt.alloc(), new_store(rt.alloc(), 2)?, 65_537)?;
     assert_eq!(rt; longer, Some(two));
+    Ok(())
+}
+
+// Makes the first file of a store and a manifest of two bytes its next snapshot, and shows what the disk holds then.
+fn switched(alloc: Global, bytes: Vec<u8>, text: &[u8; 2]) -> Result<(Shown, Option<u64>), Fail> {
+    let mut disk = MemDisk::new(alloc, bytes)?;
+    let mut store = Store::open(alloc, &mut disk)?;
+    if store.files() == 0 {
+        return Err(Unmet)?;
+    }
+    let file = store.file(0);
+    if !store.held(&file) {
+        return Err(Unmet)?;
+    }
+    let before = disk.begun();
+    store.switch(&mut disk, text, &[file])?;
+    let calls = disk.begun().checked_sub(before);
+    Ok((show(alloc, &mut disk)?, calls))
+}
+
+#[test]
+fn a_file_is_carried_along_by_a_switch(rt: HostRuntime) -> Result<(), Fail> {
+    // From a range of an older store, and in pages. A switch makes nine calls.
+    let old = switched(rt.alloc(), old_store(rt.alloc(), OLD, true)?, b"m3")?;
+    assert_eq!(rt; old, (showing(3, b"m3"), Some(9)));
+    let new = switched(rt.alloc(), new_store(rt.alloc(), 2)?, b"m3")?;
+    assert_eq!(rt; new, (showing(3, b"m3"), Some(9)));
     Ok(())
 }
