@@ -49,7 +49,10 @@ const EDITS: [Case; 17] = [
         r#"{"client":1,"seq":2,"edit":{"op":"insert","kind":"group","row":{"id":3}}}"#,
         r#"1 2 {"kind":"group","op":"insert","row":{"id":3}}"#,
     ),
-    (r#" { "edit" : null , "seq" : 1 , "client" : 4294967295 } "#, "4294967295 1 null"),
+    (
+        r#" { "edit" : null , "seq" : 1 , "client" : 4294967295 } "#,
+        "4294967295 1 null",
+    ),
     (r#"{"client":1,"seq":1,"edit":[]}"#, "1 1 []"),
     (r#"{"client":0,"seq":1,"edit":{}}"#, "no edit"),
     (r#"{"client":1,"seq":0,"edit":{}}"#, "no edit"),
@@ -83,7 +86,10 @@ fn an_edit_has_a_client_and_a_number(rt: HostRuntime) -> Result<(), Fail> {
 }
 
 const BATCHES: [Case; 18] = [
-    (r#"{"epoch":1,"first":1,"plays":[[5,2,0,10]]}"#, "1 1 5/2/0/10"),
+    (
+        r#"{"epoch":1,"first":1,"plays":[[5,2,0,10]]}"#,
+        "1 1 5/2/0/10",
+    ),
     (
         r#"{"plays":[[0,1,7,8],[9,4294967295,4102444798,4102444799]],"first":4294967295,"epoch":65536}"#,
         "65536 4294967295 0/1/7/8 9/4294967295/4102444798/4102444799",
@@ -95,14 +101,29 @@ const BATCHES: [Case; 18] = [
     (r#"{"epoch":1,"first":1,"plays":[[5,0,0,10]]}"#, "no batch"),
     (r#"{"epoch":1,"first":1,"plays":[[5,2,10,10]]}"#, "no batch"),
     (r#"{"epoch":1,"first":1,"plays":[[5,2,11,10]]}"#, "no batch"),
-    (r#"{"epoch":1,"first":1,"plays":[[5,2,0,4102444800]]}"#, "no batch"),
+    (
+        r#"{"epoch":1,"first":1,"plays":[[5,2,0,4102444800]]}"#,
+        "no batch",
+    ),
     (r#"{"epoch":1,"first":1,"plays":[[5,2,0]]}"#, "no batch"),
-    (r#"{"epoch":1,"first":1,"plays":[[5,2,0,10,1]]}"#, "no batch"),
-    (r#"{"epoch":1,"first":1,"plays":[[5,2,0,10],5]}"#, "no batch"),
+    (
+        r#"{"epoch":1,"first":1,"plays":[[5,2,0,10,1]]}"#,
+        "no batch",
+    ),
+    (
+        r#"{"epoch":1,"first":1,"plays":[[5,2,0,10],5]}"#,
+        "no batch",
+    ),
     (r#"{"epoch":1,"first":1,"plays":[[-5,2,0,10]]}"#, "no batch"),
-    (r#"{"epoch":1,"first":1,"plays":[[4294967296,2,0,10]]}"#, "no batch"),
+    (
+        r#"{"epoch":1,"first":1,"plays":[[4294967296,2,0,10]]}"#,
+        "no batch",
+    ),
     (r#"{"epoch":1,"first":1}"#, "no batch"),
-    (r#"{"epoch":1,"first":1,"plays":[[5,2,0,10]],"more":0}"#, "no batch"),
+    (
+        r#"{"epoch":1,"first":1,"plays":[[5,2,0,10]],"more":0}"#,
+        "no batch",
+    ),
     ("{", "Body"),
 ];
 
@@ -132,7 +153,10 @@ fn many(alloc: Global, count: u32) -> Result<String, AllocError> {
 fn a_batch_has_at_most_64_plays(rt: HostRuntime) -> Result<(), Fail> {
     let alloc = rt.alloc();
     assert!(rt; batch(alloc, many(alloc, 64)?.as_bytes())?.starts_with("1 1 5/2/0/1"));
-    assert_eq!(rt; batch(alloc, many(alloc, 65)?.as_bytes())?.as_str(), "no batch");
+    assert_eq!(rt;
+        batch(alloc, many(alloc, 65)?.as_bytes())?.as_str(),
+        "no batch"
+    );
     assert_eq!(rt; read_json(alloc, b"").err(), Some(BodyFault::Body));
     Ok(())
 }
