@@ -34,7 +34,8 @@ fn put_header(bytes: &mut Vec<u8>, version: u8) -> Result<(), Fail> {
 
 // A slot that begins at a place: an open gate, this number, a manifest of two bytes, and one file of five bytes with the id 9,
 // which stands from byte 6,336,512 on, or in pages.
-fn put_slot(bytes: &mut Vec<u8>, place: usize, number: u8, paged: bool) -> Result<(), Fail> {
+fn put_slot(bytes: &mut Vec<u8>, place: u32, number: u8, paged: bool) -> Result<(), Fail> {
+    let place = place as usize;
     put(
         bytes,
         place,
