@@ -1,5 +1,5 @@
 // The staging of files beside the snapshot. No room is taken from memory here.
-ghost use Rattle.std.specs.Prelude.{◌≡◌, ◌≢◌, ◌⊎◌, ◌↔◌, ℕ, ◌+◌, ◌%◌, ◌<◌, ◌≤◌, List, [], ◌∷◌, ◌++◌, length, take, None, Some, OnOk, OnErr, IfErr, IsErrOf, IsSomeAnd, IfSome, IsTrue, option_map, filter, true, false};
+ghost use Rattle.std.specs.Prelude.{◌≡◌, ◌≢◌, ◌⊎◌, ◌↔◌, ℕ, ◌+◌, ◌%◌, ◌<◌, ◌≤◌, List, [], ◌∷◌, ◌++◌, length, min, take, None, Some, OnOk, OnErr, IfErr, IsErrOf, IsSomeAnd, IfSome, IsTrue, option_map, filter, true, false};
 ghost use Rattle.md5.specs.Md5.{md5, Holds};
 ghost use Rattle.sg_base.specs.declared.file.Listed.{Listed};
 ghost use Rattle.sg_disk.specs.Runs.{LeavesOnly, Ran, Broke, Within};
@@ -71,9 +71,44 @@ impl Store {
         self.staging.half()
     }
 
-    /// Writes the next bytes of the half staged file to its page, in one call: at most up to the end of the page. They are stable
-    /// after the next switch.
+    /// Writes the next bytes of the half staged file to its page, in one call: at most up to the end of the page. No bytes make no
+    /// call. They are stable after the next switch.
     pub fn stage_bytes<D: Disk>(&mut self, disk: &mut D, bytes: &[u8]) -> Result<(), DiskFailed>
+        requires fits { IsSomeAnd self.old.staged.half
+            (λ h. h.count + length bytes.now ≤ h.file.length) }
+        requires page { IsSomeAnd self.old.staged.half
+            (λ h. h.count % PAGE + length bytes.now ≤ PAGE) }
+        requires disk { (D.view disk.old).size ≡ disk_len self.old.room }
+
+        // At any moment a crash leaves the contents as they were. Nothing but the data area is written.
+        ensures any_moment { (p : Contents) → IsReady (D.view disk.old) self.old p
+            → LeavesOnly (StandsFor p) (D.view disk.old) (D.view disk.new) }
+        ensures within { Within DATA self.old.room (D.view disk.old) (D.view disk.new) }
+        ensures size { (D.view disk.new).size ≡ (D.view disk.old).size }
+
+        // After `Ok` the bytes stand behind those that came before, and the sealed files have theirs.
+        ensures ready { OnOk result ((p : Contents) → IsReady (D.view disk.old) self.old p
+            → IsReady (D.view disk.new) self.new p) }
+        ensures bytes { OnOk result ((file : Listed) (pages before : List ℕ)
+            → IsHalf self.old.staged file pages before
+            → IsHalf self.new.staged file pages (before ++ bytes.now)) }
+        ensures ran { OnOk result (Ran (min 1 (length bytes.now)) (D.view disk.old) (D.view disk.new)) }
+
+        // What stays of the store, and why the call is refused.
+        ensures snapshot { KeepsSnapshot self.old self.new }
+        ensures sealed { self.new.staged.sealed ≡ self.old.staged.sealed }
+        ensures broke { OnErr result (Broke (D.view disk.old) (D.view disk.new)) }
+        ensures settled { OnErr result ((p : Contents) → IsReady (D.view disk.old) self.old p
+            → Settled (D.view disk.new) p) }
+    {
+        if bytes.is_empty() {
+            return Ok(());
+        }
+        self.stage_some(disk, bytes)
+    }
+
+    // The same for one byte at least.
+    fn stage_some<D: Disk>(&mut self, disk: &mut D, bytes: &[u8]) -> Result<(), DiskFailed>
         requires some { 1 ≤ length bytes.now }
         requires fits { IsSomeAnd self.old.staged.half
             (λ h. h.count + length bytes.now ≤ h.file.length) }

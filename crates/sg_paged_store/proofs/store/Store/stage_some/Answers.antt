@@ -16,7 +16,7 @@ use Rattle.sg_store_state.specs.State.{State}
 use Rattle.sg_store_state.specs.Ready.{IsReady}
 use Rattle.sg_store_state.proofs.StageLemmas.{place_high, staged_leaves}
 use Rattle.sg_paged_store.proofs.StagingLemmas.{goes_of, next_asks, goes_within, ready_staged}
-use Rattle.sg_paged_store.proofs.store.Store.stage_bytes.Goals as goal
+use Rattle.sg_paged_store.proofs.store.Store.stage_some.Goals as goal
 
 pub write_at-requires : goal.write_at-requires
 write_at-requires g c =
