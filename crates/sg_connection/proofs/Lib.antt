@@ -2,3 +2,4 @@ pub mod ExchangeLemmas
 pub mod RefusalLemmas
 pub mod TakeLemmas
 pub mod TurnLemmas
+pub mod VisitLemmas

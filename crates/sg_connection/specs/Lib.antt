@@ -2,3 +2,4 @@ pub mod Exchanges
 pub mod Taking
 pub mod Serving
 pub mod Turns
+pub mod Visits

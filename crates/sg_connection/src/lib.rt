@@ -6,10 +6,12 @@
 #![tactic(auto)]
 
 mod answer;
+mod door;
 mod inbox;
 mod receive;
 mod send;
 mod serve;
 
 pub use answer::{Answer, Answerer, Body};
+pub use door::{Served, serve_door};
 pub use serve::{ConnEnd, serve_connection};

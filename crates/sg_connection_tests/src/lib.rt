@@ -5,4 +5,6 @@
 #[cfg(test)]
 mod counter;
 #[cfg(test)]
+mod doors;
+#[cfg(test)]
 mod tests;
