@@ -1,23 +1,31 @@
 //! The server and its calls.
 
 ghost use Rattle.std.specs.Prelude.{◌≡◌, ℕ, ◌<◌, ◌≤◌, None, Ok, [], length, IfOk, IfErr, OnOk, OnErr, option_map};
-ghost use Rattle.std.specs.List.{find};
+ghost use Rattle.std.specs.List.{AllByRecursion, find};
+ghost use Rattle.std.specs.Result.{IsErrOf};
+ghost use Rattle.sg_base.specs.declared.key.Key.{Key};
+ghost use Rattle.sg_base.specs.Keys.{number_of};
+ghost use Rattle.sg_base.specs.Rising.{IsRising};
+ghost use Rattle.sg_loading.specs.Loading.{Failed as LoadFailed, HasKinds, IsFirstBad, IsLawful};
 ghost use Rattle.sg_steps.specs.Calls.{Failed};
 ghost use Rattle.sg_steps.specs.Edits.{IsEdit};
 ghost use Rattle.sg_steps.specs.Epochs.{enrolled, is_after, played, triple_of, with_plays};
-ghost use Rattle.sg_steps.specs.State.{Content, Stands};
+ghost use Rattle.sg_steps.specs.State.{AreRows, Content, Stands};
 ghost use Rattle.sg_steps.specs.Step.{content_in, expected_in, given_in, step};
 ghost use Rattle.sg_edits.specs.Edited.{IsOrdered, core_of};
 ghost use Rattle.sg_edits.specs.Media.{asked};
 ghost use Rattle.sg_edits.specs.Pieces.{piece_put, with_bytes};
 ghost use Rattle.sg_keeper.specs.View.{Ran, Same};
+ghost use Rattle.sg_records.specs.Clients.{client_number};
+ghost use Rattle.sg_records.specs.Saved.{IsSaved};
 
 use crate::piece_reply::PieceReply;
 use crate::settings::Settings;
 use crate::{editing, enrolling, pieces};
-use sg_base::limits::BATCH_PLAYS;
+use sg_base::limits::{BATCH_PLAYS, MAX_CLIENTS};
 use sg_base::{DisplayId, MediaId, PlayBody, Sorted};
 use sg_keeper::Keeper;
+use sg_loading::{LoadFault, load};
 use sg_records::{Client, Epoch, Reply};
 use sg_steps::{CmsFault, Edit, EnrolReply, PlaysReply, epoch_after, expected};
 use sg_tables::Tables;
@@ -80,9 +88,41 @@ impl Cms {
         }
     }
 
-    /// The rows of the server.
+    /// The server that the rows of a keeper stand for. Refuses the first row by key that may not be kept after those before
+    /// it, whatever comes later. The keeper's rows stay as they are.
+    pub fn load<K: Keeper>(
+        alloc: Global,
+        keeper: &mut K,
+        settings: Settings,
+    ) -> Result<Cms, LoadFault>
+        // Its rows are those of the keeper, and whatever the keeper tells they are lawful.
+        ensures rows { IfOk result (λ cms. (K.view keeper.old).told
+            → HasKinds (K.view keeper.old).rows
+            → AreRows cms (K.view keeper.old).rows) }
+        ensures lawful { IfOk result (λ cms. IsLawful cms) }
+        ensures clients { IfOk result (λ cms. IsRising client_number cms.clients) }
+        ensures limit { IfOk result (λ cms. cms.limit ≡ settings.plays_limit) }
+
+        // A bad row is the first one.
+        ensures bad { (at : Key) → IsErrOf result (LoadFault.BadRow at) → (K.view keeper.old).told
+            → HasKinds (K.view keeper.old).rows
+            → IsFirstBad settings.plays_limit (K.view keeper.old).rows (number_of at) }
+
+        // The keeper ran, or it failed; its rows are as they were.
+        ensures ran { OnOk result (Ran 9 (K.view keeper.old) (K.view keeper.new)) }
+        ensures failed { IfErr result (λ fault. LoadFailed fault (K.view keeper.old) (K.view keeper.new)) }
+        ensures same { Same (K.view keeper.old) (K.view keeper.new) }
+    {
+        let parts = load(alloc, keeper, settings.plays_limit)?;
+        let clients = parts.clients.as_slice();
+        prove!(clients.len() <= MAX_CLIENTS as usize);
+        Ok(Cms::from_parts(alloc, parts.tables, parts.clients, parts.epochs, settings))
+    }
+
+    /// The rows of the server. Each is as it may be kept.
     pub fn tables(&self) -> &Tables
-        ensures { result.now.rows ≡ self.now.rows }
+        ensures rows { result.now.rows ≡ self.now.rows }
+        ensures saved { AllByRecursion IsSaved self.now.rows }
     {
         &self.tables
     }
@@ -113,6 +153,7 @@ impl Cms {
         requires { IsEdit edit.now }
         ensures step { IfOk result (λ reply.
             record { core = self.new; reply = reply } ≡ step self.old client seq edit.now) }
+        ensures ordered { IsOrdered self.new }
 
         // The keeper's rows change with the server.
         ensures rows { OnOk result ((content : Content) → (K.view keeper.old).told
@@ -156,6 +197,7 @@ impl Cms {
 
         // Of any keeper: nothing but rows changes.
         ensures others { self.new ≡ record self.old { rows = self.new.rows } }
+        ensures ordered { IsOrdered self.new }
         ensures ran { OnOk result (Ran 0 (K.view keeper.old) (K.view keeper.new)) }
 
         // A fault leaves both as they were.
@@ -174,6 +216,7 @@ impl Cms {
     ) -> Result<EnrolReply, CmsFault>
         ensures step { IfOk result (λ reply.
             record { core = self.new; reply = reply } ≡ enrolled self.old display.0) }
+        ensures ordered { IsOrdered self.new }
 
         // The keeper's rows change with the server.
         ensures rows { OnOk result ((content : Content) → (K.view keeper.old).told
@@ -203,6 +246,7 @@ impl Cms {
         requires { length list.now ≤ BATCH_PLAYS }
         ensures step { IfOk result (λ reply. let step = played self.old display.0 epoch first list.now in
             (self.new ≡ record self.old { epochs = step.epochs }) × (reply ≡ step.reply)) }
+        ensures ordered { IsOrdered self.new }
 
         // The keeper's rows change with the server.
         ensures rows { OnOk result ((content : Content) → (K.view keeper.old).told

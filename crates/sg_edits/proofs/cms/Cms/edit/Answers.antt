@@ -28,3 +28,6 @@ pub returns-clause-unchanged : goal.returns-clause-unchanged
 returns-clause-unchanged g c =
     subst (λ old. OnErr c.edit.result ((core_of c.edit.new.tables.rows c.edit.new.clients.items c.self.inside.epochs.items c.self.inside.settings.plays_limit) ≡ old)) c.self.view_is
     (same_core c.edit.result c.edit.new.tables.rows c.self.inside.tables.rows c.edit.new.clients.items c.self.inside.clients.items c.self.inside.epochs.items c.self.inside.settings.plays_limit c.edit.ensures.tables c.edit.ensures.clients)
+
+pub returns-clause-ordered : goal.returns-clause-ordered
+returns-clause-ordered g c = c.edit.ensures.server c.self.inside.epochs.items c.self.inside.settings.plays_limit c.self.invariant

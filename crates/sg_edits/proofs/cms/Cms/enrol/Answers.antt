@@ -23,3 +23,6 @@ pub returns-clause-unchanged : goal.returns-clause-unchanged
 returns-clause-unchanged g c =
     subst (λ old. OnErr c.enrol.result ((core_of c.self.inside.tables.rows c.self.inside.clients.items c.enrol.new.epochs.items c.self.inside.settings.plays_limit) ≡ old)) c.self.view_is
     (same_epochs c.enrol.result c.self.inside.tables.rows c.self.inside.clients.items c.enrol.new.epochs.items c.self.inside.epochs.items c.self.inside.settings.plays_limit c.enrol.ensures.unchanged)
+
+pub returns-clause-ordered : goal.returns-clause-ordered
+returns-clause-ordered g c = c.enrol.ensures.server c.self.inside.clients.items c.self.inside.settings.plays_limit c.self.invariant

@@ -28,3 +28,6 @@ pub returns-clause-unchanged : goal.returns-clause-unchanged
 returns-clause-unchanged g c =
     subst (λ old. OnErr c.plays.result ((core_of c.self.inside.tables.rows c.self.inside.clients.items c.plays.new.epochs.items c.self.inside.settings.plays_limit) ≡ old)) c.self.view_is
     (same_epochs c.plays.result c.self.inside.tables.rows c.self.inside.clients.items c.plays.new.epochs.items c.self.inside.epochs.items c.self.inside.settings.plays_limit c.plays.ensures.unchanged)
+
+pub returns-clause-ordered : goal.returns-clause-ordered
+returns-clause-ordered g c = c.plays.ensures.server c.self.inside.tables.rows c.self.inside.clients.items c.self.invariant

@@ -27,3 +27,6 @@ pub returns-clause-unchanged : goal.returns-clause-unchanged
 returns-clause-unchanged g c =
     subst (λ old. OnErr c.put_piece.result ((core_of c.put_piece.new.tables.rows c.self.inside.clients.items c.self.inside.epochs.items c.self.inside.settings.plays_limit) ≡ old)) c.self.view_is
     (same_rows c.put_piece.result c.put_piece.new.tables.rows c.self.inside.tables.rows c.self.inside.clients.items c.self.inside.epochs.items c.self.inside.settings.plays_limit c.put_piece.ensures.unchanged)
+
+pub returns-clause-ordered : goal.returns-clause-ordered
+returns-clause-ordered g c = ordered_piece (core_of c.self.inside.tables.rows c.self.inside.clients.items c.self.inside.epochs.items c.self.inside.settings.plays_limit) c.put_piece.new.tables.rows c.self.invariant c.put_piece.ensures.saved
