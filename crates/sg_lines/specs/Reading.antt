@@ -1,17 +1,19 @@
 -- What is known of a source and of who reads its lines after each answer.
 use Rattle.std.specs.Prelude.{◌≡◌, ◌≢◌, ◌⊎◌, ℕ, ◌+◌, ◌<◌, ◌≤◌, Bool, true, false, List, [], ◌∷◌, ◌++◌, length, take, drop, slice_index}
 use Rattle.std.specs.declared.option.Option.{Option}
-use Rattle.std.specs.Io.KnownBytes.{Consumes, IsAtEnd}
+use Rattle.std.specs.Io.KnownBytes.{Consumes, IsAtEnd, Keeps}
 use Rattle.sg_base.specs.Causes.{Rose}
 use Rattle.sg_lines.specs.declared.stop.LineStop.{LineStop}
 use Rattle.sg_lines.specs.declared.stop.LineStop.TheVariants as stop
 
--- the bytes that were taken and aren't given yet, how many were taken in all, how many may be, and how many a line may have
+-- the bytes that were taken and aren't given yet, how many were taken in all, how many may be, how many a line may have, and
+-- whether the end of the source was seen
 pub record Reader : Type 0 where
   pub held : List ℕ
   pub taken : ℕ
   pub limit : ℕ
   pub most : ℕ
+  pub ended : Bool
 
 -- a source: the bytes that it has left, where it tells them, and its count of faults
 pub record Input : Type 0 where
@@ -40,13 +42,15 @@ pub record IsLong (bytes : List ℕ) (most : ℕ) : Type 0 where
 
 -- ---- what came in
 
--- these bytes came in, and no take failed
+-- these bytes came in, no more than may be taken, and no take failed
 pub record Took (before after : Input) (old new : Reader) (bytes : List ℕ) : Type 0 where
   pub taken : Consumes before.left after.left bytes
   pub held : new.held ≡ old.held ++ bytes
   pub count : new.taken ≡ old.taken + length bytes
+  pub bound : new.taken ≤ new.limit
   pub limit : new.limit ≡ old.limit
   pub most : new.most ≡ old.most
+  pub ended : new.ended ≡ old.ended
   pub quiet : after.faults ≡ before.faults
 
 -- some bytes came in
@@ -62,6 +66,7 @@ TakesMore before after old new false = IsAtEnd after.left × Took before after o
 
 -- what is held, up to its first line feed
 pub record GivesLine (before after : Input) (old new : Reader) (line : List ℕ) : Type 0 where
+  pub early : old.ended ≡ false
   pub mid : Reader
   pub took : TookSome before after old mid
   pub at : ℕ
@@ -72,6 +77,7 @@ pub record GivesLine (before after : Input) (old new : Reader) (line : List ℕ)
 
 -- all that is held, at the end of the source: a last line without a line feed
 pub record GivesLast (before after : Input) (old new : Reader) (line : List ℕ) : Type 0 where
+  pub early : old.ended ≡ false
   pub mid : Reader
   pub took : TookSome before after old mid
   pub end : IsAtEnd after.left
@@ -79,35 +85,63 @@ pub record GivesLast (before after : Input) (old new : Reader) (line : List ℕ)
   pub few : length mid.held ≤ mid.most
   pub feeds : HasNoFeed mid.held
   pub is : line ≡ mid.held
-  pub left : new ≡ record mid { held = [] }
+  pub left : new ≡ record mid { held = []; ended = true }
 
 abbrev pub Gives : Input → Input → Reader → Reader → List ℕ → Type 0
 Gives before after old new line = GivesLine before after old new line ⊎ GivesLast before after old new line
 
--- no line is left: nothing is held, and the source is at its end
-pub record GivesNone (before after : Input) (old new : Reader) : Type 0 where
-  pub took : TookSome before after old new
+-- the source is at its end, and nothing is held
+pub record Ends (before after : Input) (old new : Reader) : Type 0 where
+  pub early : old.ended ≡ false
+  pub mid : Reader
+  pub took : TookSome before after old mid
   pub end : IsAtEnd after.left
-  pub none : new.held ≡ []
+  pub none : mid.held ≡ []
+  pub left : new ≡ record mid { held = []; ended = true }
+
+-- its end was seen before: no take is made
+pub record HadEnded (before after : Input) (old new : Reader) : Type 0 where
+  pub ended : old.ended ≡ true
+  pub source : after ≡ before
+  pub reader : new ≡ old
+
+-- no line is left
+abbrev pub GivesNone : Input → Input → Reader → Reader → Type 0
+GivesNone before after old new = Ends before after old new ⊎ HadEnded before after old new
 
 -- ---- why no line is given
+
+-- these bytes came in, and no line is whole: what is held has no line feed, and is no longer than a line may be
+pub record Waits (before between : Input) (old mid : Reader) (bytes : List ℕ) : Type 0 where
+  pub took : Took before between old mid bytes
+  pub feeds : HasNoFeed mid.held
+  pub few : length mid.held ≤ mid.most
+
+-- a take failed, after these bytes
+pub record CannotTake (before after : Input) (old mid : Reader) : Type 0 where
+  pub bytes : List ℕ
+  pub between : Input
+  pub waits : Waits before between old mid bytes
+  pub kept : Keeps between.left after.left
+  pub rose : Rose between.faults after.faults
 
 -- a byte more than may be taken came in, after these
 pub record IsTooLong (before after : Input) (old mid : Reader) : Type 0 where
   pub bytes : List ℕ
   pub between : Input
-  pub took : Took before between old mid bytes
+  pub waits : Waits before between old mid bytes
   pub full : mid.taken ≡ mid.limit
   pub more : ℕ
   pub came : Consumes between.left after.left (more ∷ [])
 
 abbrev pub StopsBy : Input → Input → Reader → LineStop → Type 0
-StopsBy before after old stop.Read = Rose before.faults after.faults
+StopsBy before after old stop.Read = (mid : Reader) × CannotTake before after old mid
 StopsBy before after old stop.LongLine = (mid : Reader) × TookSome before after old mid × IsLong mid.held mid.most
 StopsBy before after old stop.TooLong = (mid : Reader) × IsTooLong before after old mid
-StopsBy before after old stop.Memory = Unit {0}
+StopsBy before after old stop.Memory = (bytes : List ℕ) × Consumes before.left after.left bytes × (old.taken + length bytes ≤ old.limit)
 
 -- the stop has its cause, and no take failed but one that is the cause
 pub record Stops (before after : Input) (old : Reader) (why : LineStop) : Type 0 where
+  pub early : old.ended ≡ false
   pub cause : StopsBy before after old why
   pub quiet : why ≢ stop.Read → after.faults ≡ before.faults

@@ -1,6 +1,6 @@
 //! A reader of lines.
 
-ghost use Rattle.std.specs.Prelude.{◌≡◌, ◌+◌, ◌<◌, ◌≤◌, [], length, take, drop, slice_index, IfOk, OnOk, MatchOption, MatchResult};
+ghost use Rattle.std.specs.Prelude.{◌≡◌, true, false, ◌+◌, ◌<◌, ◌≤◌, [], length, take, drop, slice_index, IfOk, OnOk, MatchOption, MatchResult};
 ghost use Rattle.std.specs.Io.KnownBytes.{IsAtEnd};
 ghost use Rattle.sg_lines.specs.Reading.{Gives, GivesNone, HasNoFeed, IsFirstFeed, IsLong, Stops, TakesMore, TookSome, side};
 
@@ -20,6 +20,7 @@ pub struct Lines {
     taken: u64,
     limit: u64,
     most: usize,
+    ended: bool,
 }
 
 impl Model for Lines {
@@ -28,7 +29,7 @@ impl Model for Lines {
 
     ghost Value = { Reader };
 
-    ghost view = { λ l. record { held = l.held.items; taken = l.taken; limit = l.limit; most = l.most } };
+    ghost view = { λ l. record { held = l.held.items; taken = l.taken; limit = l.limit; most = l.most; ended = l.ended } };
 
     ghost invariant = { λ l. l.taken ≤ l.limit };
 }
@@ -36,18 +37,19 @@ impl Model for Lines {
 impl Lines {
     /// The lines of a source from where it stands, with so many bytes at most in a line and in all.
     pub fn new(alloc: Global, most: usize, limit: u64) -> Lines
-        ensures { result ≡ record { held = []; taken = 0; limit = limit; most = most } }
+        ensures { result ≡ record { held = []; taken = 0; limit = limit; most = most; ended = false } }
     {
         Lines {
             held: Vec::new(alloc),
             taken: 0,
             limit,
             most,
+            ended: false,
         }
     }
 
     /// The next line, without its line feed; `None` if there is none. A line that is too long, a byte too many, a fault of the source and
-    /// want of memory are refused; after that no line is to be asked for.
+    /// want of memory are refused; after that no line is to be asked for. Once the end of the source was seen, no take is made.
     pub fn next<S: Source>(&mut self, source: &mut S) -> Result<Option<Vec<u8>>, LineStop>
         ensures { MatchResult result
             (λ o. MatchOption o
@@ -56,6 +58,9 @@ impl Lines {
             self.old self.new line.items))
             (λ why. Stops (side S.left S.take_faults source.old) (side S.left S.take_faults source.new) self.old why) }
     {
+        if self.ended {
+            return Ok(None);
+        }
         match self.find(source)? {
             Some(at) => Ok(Some(self.line(at)?)),
             None => Ok(self.last()),
@@ -64,6 +69,8 @@ impl Lines {
 
     // Takes pieces until the first line feed is held, and says where it is; `None` if the source is at its end before.
     fn find<S: Source>(&mut self, source: &mut S) -> Result<Option<usize>, LineStop>
+        requires early { self.old.ended ≡ false }
+        requires bound { self.old.taken ≤ self.old.limit }
         ensures { MatchResult result
             (λ o. TookSome (side S.left S.take_faults source.old) (side S.left S.take_faults source.new) self.old self.new
             × MatchOption o
@@ -97,8 +104,11 @@ impl Lines {
         }
     }
 
-    // Takes a piece. False at the end of the source.
+    // Takes a piece, where no line is whole. False at the end of the source.
     fn take_more<S: Source>(&mut self, source: &mut S) -> Result<bool, LineStop>
+        requires early { self.old.ended ≡ false }
+        requires feeds { HasNoFeed self.old.held }
+        requires few { length self.old.held ≤ self.old.most }
         ensures { MatchResult result
             (TakesMore (side S.left S.take_faults source.old) (side S.left S.take_faults source.new) self.old self.new)
             (λ why. Stops (side S.left S.take_faults source.old) (side S.left S.take_faults source.new) self.old why) }
@@ -131,11 +141,12 @@ impl Lines {
         Ok(line)
     }
 
-    // All that is held, if there is something.
+    // All that is held, if there is something, at the end of the source.
     fn last(&mut self) -> Option<Vec<u8>>
         ensures line { MatchOption result (self.old.held ≡ []) (λ line. (0 < length self.old.held) × (line.items ≡ self.old.held)) }
-        ensures rest { self.new ≡ record self.old { held = [] } }
+        ensures rest { self.new ≡ record self.old { held = []; ended = true } }
     {
+        self.ended = true;
         if self.held.is_empty() {
             return None;
         }
