@@ -1,7 +1,8 @@
 -- What came of an exchange, in the order of its refusals.
-use Rattle.std.specs.Prelude.{◌≡◌, ℕ, ◌==◌, nat_lt, Bool, true, false, List, length, if◌then◌else◌, unwrap_or}
+use Rattle.std.specs.Prelude.{◌≡◌, ◌⊎◌, ℕ, ◌+◌, ◌<◌, ◌==◌, nat_lt, Bool, true, false, List, length, if◌then◌else◌, unwrap_or}
 use Rattle.std.specs.declared.option.Option.{Option}
 use Rattle.std.specs.declared.option.Option.TheVariants.{None, Some}
+use Rattle.sg_http.specs.declared.message.Span.{Span}
 use Rattle.sg_http.specs.Messages.{bytes_at, IsSpanWithin}
 use Rattle.sg_http.specs.Replies.{Reading, Answer, Part, NoReply, Reads}
 use Rattle.sg_exchange.specs.declared.heard.Wants.{Wants}
@@ -76,3 +77,16 @@ HasAnyLength heard.NotHttp = Unit {0}
 HasAnyLength (heard.Cut got n body) = Unit {0}
 HasAnyLength (heard.Status status) = Unit {0}
 HasAnyLength (heard.Length got expected) = ⊥
+
+-- The range of a body that was cut, of which `got` bytes came where n were to come. One cut in its head has none.
+abbrev pub IsCutBody : ℕ → ℕ → Span → Type 0
+IsCutBody got n body = ((n ≡ 0) × (body.to ≡ body.from)) ⊎ ((got < n) × (body.to ≡ body.from + got))
+
+-- a body of exactly so many bytes, or one that was cut and has fewer
+abbrev pub IsPiece : ℕ → Heard → Type 0
+IsPiece n (heard.Whole body) = body.to ≡ body.from + n
+IsPiece n heard.LinkFault = Unit {0}
+IsPiece n heard.NotHttp = Unit {0}
+IsPiece n (heard.Cut got size body) = body.to < body.from + n
+IsPiece n (heard.Status status) = Unit {0}
+IsPiece n (heard.Length got expected) = Unit {0}

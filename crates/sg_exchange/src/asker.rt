@@ -1,11 +1,11 @@
 // A player as its server knows it, and what it asks.
-ghost use Rattle.std.specs.Prelude.{◌≡◌, IfOk, OnErr, length, option_copied};
+ghost use Rattle.std.specs.Prelude.{◌≡◌, ◌-◌, ◌≤◌, IfOk, OnErr, length, option_copied};
 ghost use Rattle.sg_base.specs.declared.limits.TheConstants.{MANIFEST_TEXT};
 ghost use Rattle.sg_exchange.specs.declared.heard.Wants.TheVariants.{Anything, AtMost, Exactly};
 ghost use Rattle.sg_devices.specs.Blame.{CountsFault};
 ghost use Rattle.sg_exchange.specs.Asking.{Hears};
 ghost use Rattle.sg_exchange.specs.Ends.{BatchEnds, EnrolEnds, is_batch_link_fault, is_enrol_link_fault};
-ghost use Rattle.sg_exchange.specs.Heard.{HasAnyLength, IsHeardWithin, Outcome, is_link_fault, outcome_at};
+ghost use Rattle.sg_exchange.specs.Heard.{HasAnyLength, IsHeardWithin, IsPiece, Outcome, is_link_fault, outcome_at};
 ghost use Rattle.sg_exchange.specs.Requests.{batch_request, display_path, enrol_request, manifest_request, piece_request};
 ghost use Rattle.sg_http.specs.Messages.{IsSpanWithin, bytes_at};
 ghost use Rattle.sg_http.specs.Texts.{IsBodyOf, request_text};
@@ -63,7 +63,8 @@ impl Asker {
     /// The bytes of a range of the room, as the last exchange left them.
     pub fn bytes(&self, span: Span) -> &[u8]
         requires { IsSpanWithin REPLY_ROOM span }
-        ensures { result.now ≡ bytes_at self.now.reply span }
+        ensures bytes { result.now ≡ bytes_at self.now.reply span }
+        ensures len { length result.now ≡ span.to - span.from }
     {
         &self.reply[span.from..span.to]
     }
@@ -100,15 +101,36 @@ impl Asker {
             (piece_request self.old.display self.old.key media.0 offset) (Exactly count)
             (outcome_at self.new.reply heard)) }
         ensures within { IfOk result (IsHeardWithin REPLY_ROOM) }
+        ensures piece { 1 ≤ count → IfOk result (IsPiece count) }
         ensures cause { IfOk result (λ heard.
             CountsFault (is_link_fault heard) (L.faults link.old) (L.faults link.new)) }
         ensures kept { self.new ≡ record self.old { reply = self.new.reply } }
         ensures err { OnErr result (link.new ≡ link.old) }
     {
+        let request = self.piece_request(media, offset)?;
+        Ok(self.ask_piece(link, request.as_slice(), count))
+    }
+
+    /// The request for the bytes of a medium from an offset on. Made before, it leaves nothing to be made in the exchange.
+    pub fn piece_request(&self, media: MediaId, offset: u32) -> Result<Vec<u8>, AllocError>
+        ensures { IfOk result (λ text. text.items
+            ≡ piece_request self.now.display self.now.key media.0 offset) }
+    {
         let part = piece_part(self.alloc, media, offset)?;
-        let request = self.request(Verb::Get, part.as_slice(), None)?;
+        self.request(Verb::Get, part.as_slice(), None)
+    }
+
+    /// Sends a request for a piece of exactly `count` bytes, and takes no memory.
+    pub fn ask_piece<L: Link>(&mut self, link: &mut L, request: &[u8], count: u32) -> Heard
+        ensures heard { Hears REPLY_ROOM (L.told link.old) (L.told link.new) request.now
+            (Exactly count) (outcome_at self.new.reply result) }
+        ensures within { IsHeardWithin REPLY_ROOM result }
+        ensures piece { 1 ≤ count → IsPiece count result }
+        ensures cause { CountsFault (is_link_fault result) (L.faults link.old) (L.faults link.new) }
+        ensures kept { self.new ≡ record self.old { reply = self.new.reply } }
+    {
         let wants = Wants::Exactly(u64::from(count));
-        Ok(ask(link, request.as_slice(), self.reply.as_mut_slice(), wants))
+        ask(link, request, self.reply.as_mut_slice(), wants)
     }
 
     /// Sends plays of an epoch, the first of which has the number `first`; `next` is the number of the next play to be

@@ -1,10 +1,10 @@
 // What came of an exchange.
-ghost use Rattle.std.specs.Prelude.{◌≡◌, ℕ, List, length, option_map, IfSome, false};
+ghost use Rattle.std.specs.Prelude.{◌≡◌, ◌≤◌, ℕ, List, length, option_map, IfSome, false};
 ghost use Rattle.std.specs.declared.option.Option.TheVariants.{None, Some};
 ghost use Rattle.sg_devices.specs.Blame.{CountsFault};
 ghost use Rattle.sg_exchange.specs.Asking.{Hears};
-ghost use Rattle.sg_exchange.specs.declared.heard.Wants.TheVariants.{Anything};
-ghost use Rattle.sg_exchange.specs.Heard.{ComesTo, HasAnyLength, IsHeardWithin, head_refusal, is_link_fault, length_refusal, outcome_at, outcome_of};
+ghost use Rattle.sg_exchange.specs.declared.heard.Wants.TheVariants.{Anything, Exactly};
+ghost use Rattle.sg_exchange.specs.Heard.{ComesTo, HasAnyLength, IsCutBody, IsHeardWithin, IsPiece, head_refusal, is_link_fault, length_refusal, outcome_at, outcome_of};
 ghost use Rattle.sg_http.specs.Messages.{IsSpanWithin, bytes_at};
 ghost use Rattle.sg_http.specs.Replies.{Part};
 
@@ -48,6 +48,7 @@ pub(crate) fn ask<L: Link>(link: &mut L, request: &[u8], reply: &mut [u8], wants
     ensures len { length reply.new ≡ length reply.old }
     ensures cause { CountsFault (is_link_fault result) (L.faults link.old) (L.faults link.new) }
     ensures any { wants ≡ Anything → HasAnyLength result }
+    ensures piece { (n : ℕ) → wants ≡ Exactly n → 1 ≤ n → IsPiece n result }
 {
     match link.exchange(request, reply) {
         Ok(count) => judge(&reply[..count], wants),
@@ -61,6 +62,7 @@ fn judge(bytes: &[u8], wants: Wants) -> Heard
     ensures within { IsHeardWithin (length bytes.now) result }
     ensures came { is_link_fault result ≡ false }
     ensures any { wants ≡ Anything → HasAnyLength result }
+    ensures piece { (n : ℕ) → wants ≡ Exactly n → 1 ≤ n → IsPiece n result }
 {
     match read_reply(bytes) {
         ReplyRead::NotHttp => Heard::NotHttp,
@@ -86,6 +88,8 @@ fn judge_cut(wants: Wants, status: u16, got: u64, length: u64, body: Span) -> He
     ensures within { (n : ℕ) → IsSpanWithin n body → IsHeardWithin n result }
     ensures came { is_link_fault result ≡ false }
     ensures any { wants ≡ Anything → HasAnyLength result }
+    ensures piece { (n : ℕ) → wants ≡ Exactly n → 1 ≤ n → IsCutBody got length body
+        → IsPiece n result }
 {
     if length == 0 {
         return Heard::Cut { got, length, body };
@@ -102,6 +106,7 @@ fn head_refusal(wants: Wants, status: u16, length: u64) -> Option<Heard>
         ≡ head_refusal wants status length }
     ensures apart { IfSome result (λ h. (n : ℕ) → IsHeardWithin n h × (is_link_fault h ≡ false)) }
     ensures any { wants ≡ Anything → IfSome result HasAnyLength }
+    ensures piece { IfSome result (λ h. (n : ℕ) → IsPiece n h) }
 {
     if status == 200 {
         length_refusal(wants, length)
@@ -115,6 +120,7 @@ fn length_refusal(wants: Wants, length: u64) -> Option<Heard>
         ≡ length_refusal wants length }
     ensures apart { IfSome result (λ h. (n : ℕ) → IsHeardWithin n h × (is_link_fault h ≡ false)) }
     ensures any { wants ≡ Anything → result ≡ None }
+    ensures piece { IfSome result (λ h. (n : ℕ) → IsPiece n h) }
 {
     let expected = match wants {
         Wants::Anything => return None,
