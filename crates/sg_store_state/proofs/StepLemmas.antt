@@ -38,7 +38,7 @@ range_short : (c : List ℕ) (place n : ℕ) → length (range c place n) ≤ n
 unfolding range
 range_short c place n = grind (arith, length-take n (drop place c))
 
-bytes_short : (c : List ℕ) (n : ℕ) (pages : List ℕ) → length (bytes_in c (parts_of n pages)) ≤ n
+pub bytes_short : (c : List ℕ) (n : ℕ) (pages : List ℕ) → length (bytes_in c (parts_of n pages)) ≤ n
 bytes_short c n [] = omega arith
 bytes_short c n (page ∷ pages) =
     omega (arith, length-append (range c (DATA + PAGE * page) (min n PAGE)) (bytes_in c (parts_of (n - PAGE) pages)), range_short c (DATA + PAGE * page) (min n PAGE), bytes_short c (n - PAGE) pages)
