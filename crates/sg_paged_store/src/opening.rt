@@ -1,5 +1,5 @@
 // The opening of a store.
-ghost use Rattle.std.specs.Prelude.{◌≡◌, ℕ, ◌≤◌, IfOk, IfErr, OnOk, IsErrOf, is_some, vec_capacity};
+ghost use Rattle.std.specs.Prelude.{◌≡◌, ◌≢◌, ◌⊎◌, ℕ, ◌<◌, ◌≤◌, None, Some, IfOk, IfErr, OnOk, IsErrOf, is_some, slice_index, vec_capacity};
 ghost use Rattle.std.specs.Option.{ForSome};
 ghost use Rattle.sg_disk.specs.View.{Only};
 ghost use Rattle.sg_disk.specs.Runs.{LeavesOnly, Ran};
@@ -11,11 +11,12 @@ ghost use Rattle.sg_slots.specs.Refusals.{EndedBy};
 ghost use Rattle.sg_contents.specs.StandsFor.{StandsFor, StandsForOne, Between, disk_len};
 ghost use Rattle.sg_staging.specs.Staged.{nothing_staged, IsStagedIn};
 ghost use Rattle.sg_store_state.specs.Ready.{IsReady};
+ghost use Rattle.sg_paged_store.specs.Faults.{damage_of};
 
 use crate::renewal::renew;
 use crate::store::Store;
 use sg_base::limits::MANIFEST_TEXT;
-use sg_disk::{Disk, OPEN_CALLS, TABLE_LEN};
+use sg_disk::{DATA, Disk, OPEN_CALLS, TABLE_LEN};
 use sg_paged_slots::{read_any_header, read_paged_slots};
 use sg_pages::{MAP_LEN, PageSet, Shelf};
 use sg_slots::{Format, Head, OpenFault, Slot, SlotPair};
@@ -162,6 +163,24 @@ impl Store {
         ensures size { IfOk result (λ s. (D.view disk.new).size ≡ disk_len s.room) }
         ensures ran { OnOk result (Ran OPEN_CALLS (D.view disk.old) (D.view disk.new)) }
         ensures ended { IfErr result (λ fault. EndedBy fault (D.view disk.old) (D.view disk.new)) }
+
+        // `Unformatted` comes where the disk is too short, or its gate isn't open. `Damaged` comes behind an open gate of a disk
+        // that is long enough, with the first fault of its bytes. Where they have none, it is opened, unless a call of the disk
+        // fails or memory runs out.
+        ensures unformatted { IsErrOf result OpenFault.Unformatted
+            → ((D.view disk.new).size < DATA)
+            ⊎ ((D.view disk.old).told → slice_index (D.view disk.old).bytes 0 ≢ 1) }
+        ensures formatted { OnOk result ((D.view disk.old).told
+            → slice_index (D.view disk.old).bytes 0 ≡ 1) }
+        ensures damaged { let v = D.view disk.old in (place found : ℕ)
+            → IsErrOf result (OpenFault.Damaged place found) → v.told
+            → damage_of v.size v.bytes ≡ Some (record { place = place; found = found }) }
+        ensures damaged_open { (place found : ℕ) → IsErrOf result (OpenFault.Damaged place found)
+            → (D.view disk.old).told → slice_index (D.view disk.old).bytes 0 ≡ 1 }
+        ensures damaged_long { (place found : ℕ) → IsErrOf result (OpenFault.Damaged place found)
+            → DATA ≤ (D.view disk.new).size }
+        ensures sound { OnOk result (let v = D.view disk.old in v.told
+            → damage_of v.size v.bytes ≡ None) }
 
         // A disk that stands for contents is opened, unless the disk fails or memory runs out.
         ensures recognized { (p : Contents) → (D.view disk.old).told

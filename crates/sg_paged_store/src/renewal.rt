@@ -1,15 +1,16 @@
 // The disk of an older store becomes one of the new format.
-ghost use Rattle.std.specs.Prelude.{◌≡◌, ℕ, ◌≤◌, Some, IfErr, OnOk, IsErrOf, vec_capacity, true};
+ghost use Rattle.std.specs.Prelude.{◌≡◌, ℕ, ◌≤◌, None, Some, IfErr, OnOk, IsErrOf, vec_capacity, true, false};
 ghost use Rattle.sg_disk.specs.View.{range, Only};
 ghost use Rattle.sg_disk.specs.Runs.{LeavesOnly, Ran};
 ghost use Rattle.sg_disk.specs.Contents.{Contents};
 ghost use Rattle.sg_slots.specs.Damage.{slots_damage};
 ghost use Rattle.sg_slots.specs.Refusals.{EndedBy};
+ghost use Rattle.sg_upgrade.specs.Upgrading.{IsNewBut};
 ghost use Rattle.sg_paged_slots.specs.Headers.{header_at, fits_disk};
 ghost use Rattle.sg_contents.specs.StandsFor.{StandsFor, IsNew, disk_len};
 
 use sg_base::limits::MAX_ROOM;
-use sg_disk::{Disk, HEADER_LEN, TABLE_LEN};
+use sg_disk::{DATA, Disk, HEADER_LEN, TABLE_LEN};
 use sg_paged_slots::Header;
 use sg_placing::Shelf;
 use sg_slots::{OpenFault, read_slots};
@@ -41,6 +42,15 @@ pub fn renew<D: Disk>(
         → StandsFor p (D.view disk.new).bytes
         × IsNew (range (D.view disk.new).bytes 0 HEADER_LEN)) }
     ensures size { OnOk result ((D.view disk.new).size ≡ disk_len header.now.format.room) }
+
+    // The old slots had no fault, and the upgrade has made a new disk of theirs. A new disk is left as it is.
+    ensures sound { OnOk result ((D.view disk.old).told → header.now.old ≡ true
+        → slots_damage header.now.format.room (D.view disk.old).bytes ≡ None) }
+    ensures upgraded { OnOk result (let v = D.view disk.old in v.told → Only v.bytes v
+        → header.now.old ≡ true
+        → IsNewBut header.now.format.room v.bytes (D.view disk.new).bytes) }
+    ensures kept { header.now.old ≡ false
+        → (D.view disk.new).bytes ≡ (D.view disk.old).bytes }
     ensures table { TABLE_LEN ≤ vec_capacity table.new }
     ensures ran { OnOk result (Ran 0 (D.view disk.old) (D.view disk.new)) }
 
@@ -49,6 +59,8 @@ pub fn renew<D: Disk>(
         → (D.view disk.old).told → (header.now.old ≡ true)
         × (slots_damage header.now.format.room (D.view disk.old).bytes
         ≡ Some (record { place = place; found = found })) }
+    ensures long { (place found : ℕ) → IsErrOf result (OpenFault.Damaged place found)
+        → DATA ≤ (D.view disk.new).size }
     ensures formatted { IsErrOf result OpenFault.Unformatted → ⊥ }
     ensures ended { IfErr result (λ fault. EndedBy fault (D.view disk.old) (D.view disk.new)) }
 {

@@ -2,7 +2,7 @@
 ghost use Rattle.std.specs.Prelude.{◌≡◌, ◌≢◌, ◌⊎◌, ◌↔◌, ℕ, ◌+◌, ◌%◌, ◌<◌, ◌≤◌, List, [], ◌∷◌, ◌++◌, length, min, take, None, Some, OnOk, OnErr, IfErr, IsErrOf, IsSomeAnd, IfSome, IsTrue, option_map, filter, true, false};
 ghost use Rattle.md5.specs.Md5.{md5, Holds};
 ghost use Rattle.sg_base.specs.declared.file.Listed.{Listed};
-ghost use Rattle.sg_disk.specs.Runs.{LeavesOnly, Ran, Broke, Within};
+ghost use Rattle.sg_disk.specs.Runs.{LeavesOnly, Ran, Broke, Within, Keeps};
 ghost use Rattle.sg_disk.specs.Contents.{StoredFile, Contents};
 ghost use Rattle.sg_placing.specs.Placing.{is_listed};
 ghost use Rattle.sg_pages.specs.Pages.{needed};
@@ -10,7 +10,7 @@ ghost use Rattle.sg_pages.specs.Shelves.{stands};
 ghost use Rattle.sg_contents.specs.StandsFor.{disk_len, StandsFor, Settled};
 ghost use Rattle.sg_staging.specs.Staged.{free_beside, half_at, IsHalf};
 ghost use Rattle.sg_store_state.specs.State.{is_held};
-ghost use Rattle.sg_store_state.specs.Ready.{sealed_files, half_file, HasStaged, KeepsSnapshot, IsReady};
+ghost use Rattle.sg_store_state.specs.Ready.{bytes_so_far, sealed_files, half_file, HasStaged, KeepsSnapshot, IsReady};
 
 use crate::store::Store;
 use sg_base::Listed;
@@ -66,7 +66,11 @@ impl Store {
 
     /// The file that is half staged, and how many of its bytes have come.
     pub fn staged(&self) -> Option<(Listed, u32)>
-        ensures { result ≡ option_map (λ h. (h.file, h.count)) self.now.staged.half }
+        ensures half { result ≡ option_map (λ h. (h.file, h.count)) self.now.staged.half }
+
+        // So many of its bytes stand on any disk that has the data area.
+        ensures came { (c : List ℕ) → DATA + self.now.room ≤ length c
+            → IfSome self.now.staged.half (λ h. length (bytes_so_far c h) ≡ h.count) }
     {
         self.staging.half()
     }
@@ -84,6 +88,8 @@ impl Store {
         ensures any_moment { (p : Contents) → IsReady (D.view disk.old) self.old p
             → LeavesOnly (StandsFor p) (D.view disk.old) (D.view disk.new) }
         ensures within { Within DATA self.old.room (D.view disk.old) (D.view disk.new) }
+        ensures keeps { (place n : ℕ) → place + n ≤ DATA
+            → Keeps place n (D.view disk.old) (D.view disk.new) }
         ensures size { (D.view disk.new).size ≡ (D.view disk.old).size }
 
         // After `Ok` the bytes stand behind those that came before, and the sealed files have theirs.
@@ -92,6 +98,13 @@ impl Store {
         ensures bytes { OnOk result ((file : Listed) (pages before : List ℕ)
             → IsHalf self.old.staged file pages before
             → IsHalf self.new.staged file pages (before ++ bytes.now)) }
+        ensures half_bytes { let v = D.view disk.old in OnOk result ((p : Contents) (f : StoredFile)
+            → IsReady v self.old p → half_file self.old v.bytes ≡ Some f
+            → half_file self.new (D.view disk.new).bytes
+            ≡ Some (record f { bytes = f.bytes ++ bytes.now })) }
+        ensures sealed_bytes { let v = D.view disk.old in OnOk result ((p : Contents)
+            → IsReady v self.old p
+            → sealed_files self.new (D.view disk.new).bytes ≡ sealed_files self.old v.bytes) }
         ensures ran { OnOk result (Ran (min 1 (length bytes.now)) (D.view disk.old) (D.view disk.new)) }
 
         // What stays of the store, and why the call is refused.
@@ -120,6 +133,8 @@ impl Store {
         ensures any_moment { (p : Contents) → IsReady (D.view disk.old) self.old p
             → LeavesOnly (StandsFor p) (D.view disk.old) (D.view disk.new) }
         ensures within { Within DATA self.old.room (D.view disk.old) (D.view disk.new) }
+        ensures keeps { (place n : ℕ) → place + n ≤ DATA
+            → Keeps place n (D.view disk.old) (D.view disk.new) }
         ensures size { (D.view disk.new).size ≡ (D.view disk.old).size }
 
         // After `Ok` the bytes stand behind those that came before, and the sealed files have theirs.
@@ -128,6 +143,13 @@ impl Store {
         ensures bytes { OnOk result ((file : Listed) (pages before : List ℕ)
             → IsHalf self.old.staged file pages before
             → IsHalf self.new.staged file pages (before ++ bytes.now)) }
+        ensures half_bytes { let v = D.view disk.old in OnOk result ((p : Contents) (f : StoredFile)
+            → IsReady v self.old p → half_file self.old v.bytes ≡ Some f
+            → half_file self.new (D.view disk.new).bytes
+            ≡ Some (record f { bytes = f.bytes ++ bytes.now })) }
+        ensures sealed_bytes { let v = D.view disk.old in OnOk result ((p : Contents)
+            → IsReady v self.old p
+            → sealed_files self.new (D.view disk.new).bytes ≡ sealed_files self.old v.bytes) }
         ensures ran { OnOk result (Ran 1 (D.view disk.old) (D.view disk.new)) }
 
         // What stays of the store, and why the call is refused.
@@ -150,13 +172,21 @@ impl Store {
         // After `Ok` the file stands behind the sealed ones, and its bytes have the listed MD5.
         ensures sealed { OnOk result (IfSome self.old.staged.half (λ h.
             stands self.new.staged.sealed ≡ stands self.old.staged.sealed ++ half_at h ∷ [])) }
+        ensures sealed_bytes { OnOk result ((c : List ℕ) (f : StoredFile)
+            → half_file self.old c ≡ Some f
+            → sealed_files self.new c ≡ sealed_files self.old c ++ f ∷ []) }
         ensures digest { OnOk result (IfSome self.old.staged.half (λ h. (bytes : List ℕ)
             → Holds h.hasher bytes → md5 bytes ≡ h.file.md5)) }
+        ensures digest_bytes { OnOk result ((c : List ℕ) (f : StoredFile) → HasStaged self.old c
+            → half_file self.old c ≡ Some f → md5 f.bytes ≡ f.listed.md5) }
 
         // They have another one where it is refused. Then the file is given up.
         ensures differs { (fault : DigestDiffers) → IsErrOf result fault
             → IfSome self.old.staged.half (λ h. (bytes : List ℕ) → Holds h.hasher bytes
             → (md5 bytes ≡ fault.found) × (fault.found ≢ h.file.md5)) }
+        ensures differs_bytes { (fault : DigestDiffers) → IsErrOf result fault
+            → (c : List ℕ) (f : StoredFile) → HasStaged self.old c → half_file self.old c ≡ Some f
+            → (md5 f.bytes ≡ fault.found) × (fault.found ≢ f.listed.md5) }
         ensures given_up { OnErr result (self.new.staged.sealed ≡ self.old.staged.sealed) }
 
         // What is so in both cases.

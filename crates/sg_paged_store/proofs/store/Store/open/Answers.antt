@@ -1,4 +1,4 @@
-use Rattle.std.proofs.Common.{◌≡◌, ℕ, ◌+◌, List, sym, ◌∙◌, ap, subst}
+use Rattle.std.proofs.Common.{◌≡◌, ℕ, ◌+◌, List, Option, None, Some, sym, ◌∙◌, ap, subst}
 use Rattle.std.proofs.lemmas.Result.{err_from_is_err_and}
 use Rattle.sg_disk.specs.View.{View, range, Only}
 use Rattle.sg_disk.specs.StandsFor.{Two}
@@ -12,13 +12,16 @@ use Rattle.sg_disk.proofs.Moments.{started, quiet_only, ran_none}
 use Rattle.sg_slots.specs.declared.fault.OpenFault.TheVariants.{Unformatted, Damaged}
 use Rattle.sg_slots.specs.declared.pair.SlotPair.{SlotPair}
 use Rattle.sg_slots.proofs.RefusalLemmas.{ended_after, handed_on}
-use Rattle.sg_paged_slots.specs.Headers.{header_at}
+use Rattle.sg_slots.specs.Damage.{slots_damage}
+use Rattle.sg_upgrade.specs.Upgrading.{IsNewBut}
+use Rattle.sg_paged_slots.specs.Headers.{header_at, any_header_damage}
 use Rattle.sg_paged_slots.specs.declared.headers.Header.{Header}
 use Rattle.sg_contents.specs.StandsFor.{StandsFor, StandsForOne, IsNew}
 use Rattle.sg_contents.proofs.Standing.{between_read}
 use Rattle.sg_soundness.proofs.SoundHeader.{header_says}
 use Rattle.sg_store_state.specs.State.{State}
 use Rattle.sg_store_state.proofs.RenewLemmas.{both_read, both_renewed, both_opened, not_unformatted, header_not_damaged, old_undamaged, new_undamaged}
+use Rattle.sg_paged_store.proofs.FaultLemmas.{in_header, in_slots, in_old, by_format}
 use Rattle.sg_paged_store.proofs.OpeningLemmas.{Read, room_from, assembled_ready}
 use Rattle.sg_paged_store.proofs.store.Store.open.Goals as goal
 
@@ -165,3 +168,75 @@ returns-in_err-slots-clause-undamaged g c p told standing place found is =
     let before : StandsFor p m.bytes = subst (StandsFor p) (sym same) standing in
     let both = c.in_ok-renew.ensures.stands told_m (subst (λ (b : List ℕ). Only b m) (sym same) (head.stable told)) is_head p before in
     new_undamaged p u.bytes h.format.room (record { place = place; found = found }) (ap (λ (x : Header). x.format.room) is_head ∙ (header_says p m.bytes before).room) both.1 both.0 (c.in_err-slots.ensures.damaged place found given (c.in_ok-renew.ensures.ran.told told_m))
+
+pub returns-in_err-header-clause-damaged : goal.returns-in_err-header-clause-damaged
+returns-in_err-header-clause-damaged g c place found is told =
+    let v : View = g.D.Disk.view c.args.disk.now in
+    let q = err_from_is_err_and c.from_residual-in_err-header.result c.from_residual-in_err-header.ensures.1 in
+    let given = handed_on Header State c.from_residual-in_err-header.result q.0 c.in_err-header.field-0.0 (Damaged place found) q.1 q.2 is in
+    let bad = c.in_err-header.ensures.damaged place found given told in
+    in_header v.size v.bytes (record { place = place; found = found }) (subst (λ (n : ℕ). any_header_damage n v.bytes ≡ Some (record { place = place; found = found })) (c.read_any_header.ensures.told_size told) bad)
+
+pub returns-in_err-renew-clause-damaged : goal.returns-in_err-renew-clause-damaged
+returns-in_err-renew-clause-damaged g c place found is told =
+    let v : View = g.D.Disk.view c.args.disk.now in
+    let h : Header = c.in_ok-header.header in
+    let head = c.in_ok-header.ensures in
+    let q = err_from_is_err_and c.from_residual-in_err-renew.result c.from_residual-in_err-renew.ensures.1 in
+    let given = handed_on (Unit {0}) State c.from_residual-in_err-renew.result q.0 c.in_err-renew.field-0.0 (Damaged place found) q.1 q.2 is in
+    let bad = c.in_err-renew.ensures.damaged place found given (head.ran.told told) in
+    let sound : any_header_damage v.size v.bytes ≡ None = subst (λ (n : ℕ). any_header_damage n v.bytes ≡ None) (c.read_any_header.ensures.told_size told) (head.sound told) in
+    in_slots v.size v.bytes (Some (record { place = place; found = found })) sound (in_old v.bytes h (Some (record { place = place; found = found })) (head.header told) bad.0 (subst (λ (b : List ℕ). slots_damage h.format.room b ≡ Some (record { place = place; found = found })) (head.bytes told) bad.1))
+
+pub returns-in_err-slots-clause-damaged : goal.returns-in_err-slots-clause-damaged
+returns-in_err-slots-clause-damaged g c place found is told =
+    let v : View = g.D.Disk.view c.args.disk.now in
+    let m : View = g.D.Disk.view c.read_any_header.new.disk in
+    let u : View = g.D.Disk.view c.renew.new.disk in
+    let h : Header = c.in_ok-header.header in
+    let head = c.in_ok-header.ensures in
+    let q = err_from_is_err_and c.from_residual-in_err-slots.result c.from_residual-in_err-slots.ensures.1 in
+    let given = handed_on SlotPair State c.from_residual-in_err-slots.result q.0 c.in_err-slots.field-0.0 (Damaged place found) q.1 q.2 is in
+    let told_m = head.ran.told told in
+    let same : m.bytes ≡ v.bytes = head.bytes told in
+    let only_m : Only m.bytes m = subst (λ (b : List ℕ). Only b m) (sym same) (head.stable told) in
+    let sound : any_header_damage v.size v.bytes ≡ None = subst (λ (n : ℕ). any_header_damage n v.bytes ≡ None) (c.read_any_header.ensures.told_size told) (head.sound told) in
+    let bad = c.in_err-slots.ensures.damaged place found given (c.in_ok-renew.ensures.ran.told told_m) in
+    in_slots v.size v.bytes (Some (record { place = place; found = found })) sound
+    (by_format v.bytes u.bytes h (Some (record { place = place; found = found })) (head.header told) (λ new. c.renew.ensures.kept new ∙ same)
+    (λ old. (subst (λ (b : List ℕ). IsNewBut h.format.room b u.bytes) same (c.in_ok-renew.ensures.upgraded told_m only_m old), subst (λ (b : List ℕ). slots_damage h.format.room b ≡ None) same (c.in_ok-renew.ensures.sound told_m old))) bad)
+
+pub returns-clause-sound : goal.returns-clause-sound
+returns-clause-sound g c told =
+    let v : View = g.D.Disk.view c.args.disk.now in
+    let m : View = g.D.Disk.view c.read_any_header.new.disk in
+    let u : View = g.D.Disk.view c.renew.new.disk in
+    let h : Header = c.in_ok-header.header in
+    let head = c.in_ok-header.ensures in
+    let told_m = head.ran.told told in
+    let same : m.bytes ≡ v.bytes = head.bytes told in
+    let only_m : Only m.bytes m = subst (λ (b : List ℕ). Only b m) (sym same) (head.stable told) in
+    let sound : any_header_damage v.size v.bytes ≡ None = subst (λ (n : ℕ). any_header_damage n v.bytes ≡ None) (c.read_any_header.ensures.told_size told) (head.sound told) in
+    in_slots v.size v.bytes None sound
+    (by_format v.bytes u.bytes h None (head.header told) (λ new. c.renew.ensures.kept new ∙ same)
+    (λ old. (subst (λ (b : List ℕ). IsNewBut h.format.room b u.bytes) same (c.in_ok-renew.ensures.upgraded told_m only_m old), subst (λ (b : List ℕ). slots_damage h.format.room b ≡ None) same (c.in_ok-renew.ensures.sound told_m old))) (c.in_ok-slots.ensures.sound (c.in_ok-renew.ensures.ran.told told_m)))
+
+pub returns-in_err-header-clause-unformatted : goal.returns-in_err-header-clause-unformatted
+returns-in_err-header-clause-unformatted g c is =
+    let q = err_from_is_err_and c.from_residual-in_err-header.result c.from_residual-in_err-header.ensures.1 in
+    c.in_err-header.ensures.unformatted (handed_on Header State c.from_residual-in_err-header.result q.0 c.in_err-header.field-0.0 Unformatted q.1 q.2 is)
+
+pub returns-in_err-header-clause-damaged_open : goal.returns-in_err-header-clause-damaged_open
+returns-in_err-header-clause-damaged_open g c place found is told =
+    let q = err_from_is_err_and c.from_residual-in_err-header.result c.from_residual-in_err-header.ensures.1 in
+    c.in_err-header.ensures.opened place found (handed_on Header State c.from_residual-in_err-header.result q.0 c.in_err-header.field-0.0 (Damaged place found) q.1 q.2 is) told
+
+pub returns-in_err-header-clause-damaged_long : goal.returns-in_err-header-clause-damaged_long
+returns-in_err-header-clause-damaged_long g c place found is =
+    let q = err_from_is_err_and c.from_residual-in_err-header.result c.from_residual-in_err-header.ensures.1 in
+    c.in_err-header.ensures.long place found (handed_on Header State c.from_residual-in_err-header.result q.0 c.in_err-header.field-0.0 (Damaged place found) q.1 q.2 is)
+
+pub returns-in_err-renew-clause-damaged_long : goal.returns-in_err-renew-clause-damaged_long
+returns-in_err-renew-clause-damaged_long g c place found is =
+    let q = err_from_is_err_and c.from_residual-in_err-renew.result c.from_residual-in_err-renew.ensures.1 in
+    c.in_err-renew.ensures.long place found (handed_on (Unit {0}) State c.from_residual-in_err-renew.result q.0 c.in_err-renew.field-0.0 (Damaged place found) q.1 q.2 is)
