@@ -5,17 +5,19 @@ use Rattle.std.proofs.lemmas.List.{length_push, drop-append-le}
 use Rattle.sg_base.specs.declared.play.PlayBody.{PlayBody}
 use Rattle.sg_disk.specs.View.{View, range, put, Torn, Only}
 use Rattle.sg_disk.specs.Runs.{LeavesOnly, Within}
-use Rattle.sg_disk.specs.Contents.{Contents, IsPlay, IsLawful, played}
-use Rattle.sg_disk.specs.StandsFor.{gate, body, fields, HoldsPlays, IsJournal, journal_of, StandsFor, Either}
+use Rattle.sg_disk.specs.Contents.{Contents, IsPlay, played}
+use Rattle.sg_contents.specs.Lawful.{IsLawful}
+use Rattle.sg_disk.specs.StandsFor.{gate, body, fields, HoldsPlays, IsJournal, journal_of}
+use Rattle.sg_contents.specs.StandsFor.{StandsFor, Either}
 use Rattle.sg_base.specs.declared.limits.TheConstants.{JOURNAL_RECORDS}
 use Rattle.sg_disk.specs.declared.places.TheConstants.{DATA, JOURNAL, JOURNAL_LEN, RECORD_LEN}
-use Rattle.sg_disk.proofs.Areas.{recorded}
-use Rattle.sg_disk.proofs.Standing.{settled_read, settled_by, settled_leaves, lawful_played}
+use Rattle.sg_contents.proofs.Areas.{recorded, in_area}
+use Rattle.sg_contents.proofs.Standing.{settled_read, settled_by, settled_leaves, lawful_played}
 use Rattle.sg_disk.proofs.Moments.{joined, weaker}
 use Rattle.sg_disk.proofs.Writes.{within_wider, within_joined}
 use Rattle.sg_journal.specs.declared.journal.Journal.{Journal}
 use Rattle.sg_journal.specs.Ready.{next_of, plays_of, IsReady}
-use Rattle.sg_disk.proofs.Areas.{in_area, one_written, area_written}
+use Rattle.sg_disk.proofs.Areas.{one_written, area_written}
 use Rattle.sg_disk.proofs.Parts.{area_byte_written, area_range_written}
 use Rattle.sg_journal.proofs.Ring.{still_open, closed, filled, still_closed, opened}
 

@@ -3,12 +3,13 @@ use Rattle.std.proofs.Common.{◌≡◌, ◌⊎◌, ℕ, ◌+◌, ◌-◌, ◌�
 use Rattle.std.proofs.lemmas.List.{drop-drop}
 use Rattle.sg_base.specs.declared.play.PlayBody.{PlayBody}
 use Rattle.sg_disk.specs.View.{View}
-use Rattle.sg_disk.specs.Runs.{Within}
+use Rattle.sg_disk.specs.Runs.{Within, Keeps}
 use Rattle.sg_disk.specs.Contents.{Contents}
-use Rattle.sg_disk.specs.StandsFor.{HoldsPlays, journal_of, Settled}
+use Rattle.sg_disk.specs.StandsFor.{HoldsPlays, journal_of}
+use Rattle.sg_contents.specs.StandsFor.{Settled}
 use Rattle.sg_disk.specs.declared.places.TheConstants.{JOURNAL, JOURNAL_LEN}
-use Rattle.sg_disk.proofs.Standing.{floor_raised}
-use Rattle.sg_disk.proofs.Writes.{one_kept, bytes_kept}
+use Rattle.sg_contents.proofs.Standing.{floor_raised}
+use Rattle.sg_disk.proofs.Keeping.{one_keeps, keeps_within}
 use Rattle.sg_journal.specs.declared.journal.Journal.{Journal}
 use Rattle.sg_journal.specs.Ready.{first_of, next_of, oldest_of, epoch_of, plays_of, Agrees, IsReady}
 
@@ -33,15 +34,15 @@ acknowledged_ready v j new p next ready low agrees = record {
   agrees = agrees p (journal_of v.bytes) ready.agrees;
 }
 
--- A write outside the journal's area, after which the disk is settled with contents that have the same plays
-pub ready_elsewhere : (v w : View) (j : Journal) (p q : Contents) (place n : ℕ) → IsReady v j p → Settled w q → q.epoch ≡ p.epoch → q.plays ≡ p.plays → q.floor ≡ p.floor → (JOURNAL + JOURNAL_LEN ≤ place) ⊎ (place + n ≤ JOURNAL) → Within place n v w → IsReady w j q
-ready_elsewhere v w j p q place n ready settled epoch plays floor apart within =
+-- The journal's area stays, and the disk is settled with contents that have the same plays
+pub ready_keeps : (v w : View) (j : Journal) (p q : Contents) → IsReady v j p → Settled w q → q.epoch ≡ p.epoch → q.plays ≡ p.plays → q.floor ≡ p.floor → Keeps JOURNAL JOURNAL_LEN v w → IsReady w j q
+ready_keeps v w j p q ready settled epoch plays floor keeps =
     let told : v.told = ready.settled.told in
-    let same : journal_of w.bytes ≡ journal_of v.bytes = bytes_kept place n JOURNAL JOURNAL_LEN v w told apart within in
+    let same : journal_of w.bytes ≡ journal_of v.bytes = keeps.bytes told in
     let here : HoldsPlays p.epoch j.oldest p.plays (journal_of w.bytes) = subst (λ (a : List ℕ). HoldsPlays p.epoch j.oldest p.plays a) (sym same) ready.agrees.held in
     record {
       settled = settled;
-      one = one_kept place n JOURNAL JOURNAL_LEN v w told apart ready.one within;
+      one = one_keeps JOURNAL JOURNAL_LEN v w told ready.one keeps;
       agrees = record {
         held = subst (λ (e : ℕ). HoldsPlays e j.oldest q.plays (journal_of w.bytes)) (sym epoch) (subst (λ (l : List PlayBody). HoldsPlays p.epoch j.oldest l (journal_of w.bytes)) (sym plays) here);
         first = ready.agrees.first ∙ sym floor;
@@ -50,3 +51,7 @@ ready_elsewhere v w j p q place n ready settled epoch plays floor apart within =
         epoch = ready.agrees.epoch ∙ sym epoch;
       };
     }
+
+-- A write outside the journal's area, after which the disk is settled with contents that have the same plays
+pub ready_elsewhere : (v w : View) (j : Journal) (p q : Contents) (place n : ℕ) → IsReady v j p → Settled w q → q.epoch ≡ p.epoch → q.plays ≡ p.plays → q.floor ≡ p.floor → (JOURNAL + JOURNAL_LEN ≤ place) ⊎ (place + n ≤ JOURNAL) → Within place n v w → IsReady w j q
+ready_elsewhere v w j p q place n ready settled epoch plays floor apart within = ready_keeps v w j p q ready settled epoch plays floor (keeps_within place n JOURNAL JOURNAL_LEN v w apart within)

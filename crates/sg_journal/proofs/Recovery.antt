@@ -7,11 +7,12 @@ use Rattle.sg_base.specs.declared.play.PlayBody.{PlayBody}
 use Rattle.sg_disk.specs.View.{View, Only, Same, Passed}
 use Rattle.sg_disk.specs.Runs.{Ran, Quiet}
 use Rattle.sg_disk.specs.Contents.{Contents, IsPlay}
-use Rattle.sg_disk.specs.StandsFor.{HoldsPlays, journal_of, StandsFor}
+use Rattle.sg_disk.specs.StandsFor.{HoldsPlays, journal_of}
+use Rattle.sg_contents.specs.StandsFor.{StandsFor}
 use Rattle.sg_base.specs.declared.limits.TheConstants.{MAX_PLAYS, JOURNAL_RECORDS}
 use Rattle.sg_disk.specs.declared.places.TheConstants.{JOURNAL, JOURNAL_LEN, OPEN_CALLS}
 use Rattle.sg_disk.proofs.Moments.{quiet_only, ran_one, ran_joined, ran_fewer}
-use Rattle.sg_disk.proofs.Standing.{settled_by}
+use Rattle.sg_contents.proofs.Standing.{settled_by, stands_from}
 use Rattle.sg_disk.proofs.Writes.{one_stable}
 use Rattle.sg_journal.specs.declared.record.Entry.{Entry}
 use Rattle.sg_journal.specs.declared.journal.Journal.{Journal}
@@ -162,28 +163,6 @@ stands_recorded r c stands =
         holds = journal.2;
       },
     )
-
--- the same contents, with the floor where the records begin
-stands_from : (r : Contents) (c : List ℕ) (from : ℕ) → 1 ≤ from → HoldsPlays r.epoch from r.plays (journal_of c) → StandsFor r c → StandsFor (record r { floor = from }) c
-stands_from r c from low holds stands =
-    let lawful = stands.lawful in
-    record {
-      lawful = record {
-        display = lawful.display;
-        epoch = lawful.epoch;
-        room = lawful.room;
-        snapshot = lawful.snapshot;
-        plays = lawful.plays;
-        few = lawful.few;
-        floor = low;
-      };
-      size = stands.size;
-      header = stands.header;
-      slots = stands.slots;
-      journal = (from, omega arith, holds);
-      files = stands.files;
-      seals = stands.seals;
-    }
 
 -- The journal that was opened is ready, with contents whose floor is its first number
 pub opened_ready : (w : View) (j : Journal) (r : Contents) (bytes : List ℕ) → w.told → w.bytes ≡ bytes → Only bytes w → StandsFor r bytes → epoch_of j ≡ r.epoch → oldest_of j ≡ first_of j → Holds r.epoch (journal_of bytes) (first_of j) (plays_of j) → (first_of j ≤ r.floor) × IsReady w j (record r { floor = first_of j })

@@ -5,7 +5,8 @@ use Rattle.sg_base.specs.declared.play.PlayBody.{PlayBody}
 use Rattle.sg_disk.specs.View.{View}
 use Rattle.sg_disk.specs.Runs.{LeavesOnly}
 use Rattle.sg_disk.specs.Contents.{Contents, played}
-use Rattle.sg_disk.specs.StandsFor.{StandsFor, Either, Two, Between}
+use Rattle.sg_disk.specs.StandsFor.{Two}
+use Rattle.sg_contents.specs.StandsFor.{StandsFor, Either, Between}
 use Rattle.sg_disk.proofs.Moments.{started, joined, weaker}
 use Rattle.sg_journal.specs.declared.journal.Journal.{Journal}
 use Rattle.sg_journal.specs.Ready.{IsReady}

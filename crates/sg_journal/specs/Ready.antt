@@ -3,7 +3,8 @@ use Rattle.std.specs.Prelude.{◌≡◌, ℕ, ◌+◌, ◌-◌, List, length, dr
 use Rattle.sg_base.specs.declared.play.PlayBody.{PlayBody}
 use Rattle.sg_disk.specs.View.{View}
 use Rattle.sg_disk.specs.Contents.{Contents}
-use Rattle.sg_disk.specs.StandsFor.{HoldsPlays, journal_of, Settled, HasOneJournal}
+use Rattle.sg_disk.specs.StandsFor.{HoldsPlays, journal_of, HasOneJournal}
+use Rattle.sg_contents.specs.StandsFor.{Settled}
 use Rattle.sg_journal.specs.declared.journal.Journal.{Journal}
 
 -- the number of the first play that isn't acknowledged

@@ -2,7 +2,7 @@
 use Rattle.std.specs.Prelude.{ℕ, ◌≤◌, ◌++◌, List, length, take}
 use Rattle.sg_base.specs.declared.play.PlayBody.{PlayBody}
 use Rattle.sg_disk.specs.Contents.{Contents}
-use Rattle.sg_disk.specs.StandsFor.{StandsFor}
+use Rattle.sg_contents.specs.StandsFor.{StandsFor}
 
 -- with more plays
 abbrev pub played_all : Contents → List PlayBody → Contents

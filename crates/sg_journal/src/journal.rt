@@ -39,7 +39,8 @@ impl Journal {
     ghost use Rattle.std.specs.Prelude.{◌≡◌, ◌⊎◌, ◌+◌, ◌-◌, ◌*◌, ◌%◌, ◌<◌, ◌≤◌, ◌^◌, ℕ, List, [], ◌∷◌, ◌++◌, length, take, drop, min, IfOk, IfErr, OnOk, OnErr, IsErrOf};
     ghost use Rattle.sg_disk.specs.Contents.{Contents, played};
     ghost use Rattle.sg_disk.specs.View.{Only};
-    ghost use Rattle.sg_disk.specs.StandsFor.{StandsFor, Either, Two, Between, journal_of};
+    ghost use Rattle.sg_disk.specs.StandsFor.{Two, journal_of};
+    ghost use Rattle.sg_contents.specs.StandsFor.{StandsFor, Either, Between};
     ghost use Rattle.sg_disk.specs.Runs.{LeavesOnly, Ran, Broke, Quiet, Within, Keeps};
     ghost use Rattle.sg_journal.specs.Ready.{epoch_of, first_of, next_of, oldest_of, plays_of, Agrees, IsReady};
     ghost use Rattle.sg_journal.specs.Entries.{AreOwn, IsRecovered, IsGapAt, EndedBy};

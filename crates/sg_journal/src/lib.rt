@@ -2,9 +2,9 @@
 //!
 //! A play is on the disk once `append` has answered Ok, and a crash at any moment leaves the plays before it, or these and the
 //! new one. Callers see a journal as the number of its first play that isn't acknowledged and the list of these plays, and
-//! `IsReady` ties it to the contents of sg_disk for which the disk stands (`specs/Ready.antt`). What an opening finds in the
-//! records, and what it takes as damage, is `specs/Records.antt`; a batch is `specs/BatchPlays.antt`, and the law on a list of
-//! plays speaks by `specs/Series.antt`. `specs/Entries.antt` serves the crate's own functions.
+//! `IsReady` ties it to the contents for which the disk stands, by sg_contents in either format (`specs/Ready.antt`). What an
+//! opening finds in the records, and what it takes as damage, is `specs/Records.antt`; a batch is `specs/BatchPlays.antt`, and
+//! the law on a list of plays speaks by `specs/Series.antt`. `specs/Entries.antt` serves the crate's own functions.
 #![tactic(auto)]
 
 mod batch;

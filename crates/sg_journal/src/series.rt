@@ -2,7 +2,8 @@
 ghost use Rattle.std.specs.Prelude.{◌≡◌, ℕ, ◌+◌, ◌*◌, ◌<◌, ◌≤◌, ◌++◌, length, take, slice_get, Some, OnOk, IsErrOf};
 ghost use Rattle.sg_base.specs.declared.play.PlayBody.{PlayBody};
 ghost use Rattle.sg_disk.specs.Contents.{Contents};
-ghost use Rattle.sg_disk.specs.StandsFor.{Two, Between};
+ghost use Rattle.sg_disk.specs.StandsFor.{Two};
+ghost use Rattle.sg_contents.specs.StandsFor.{Between};
 ghost use Rattle.sg_disk.specs.Runs.{LeavesOnly, Ran, Broke, Within};
 ghost use Rattle.sg_journal.specs.Ready.{IsReady, first_of, plays_of};
 ghost use Rattle.sg_journal.specs.Series.{played_all, StandsForSome};

@@ -1,9 +1,9 @@
 use Rattle.std.proofs.Common.{ℕ, List, inl}
 use Rattle.sg_disk.specs.Contents.{played}
-use Rattle.sg_disk.specs.StandsFor.{StandsFor, Either}
+use Rattle.sg_contents.specs.StandsFor.{StandsFor, Either}
 use Rattle.sg_disk.specs.declared.places.TheConstants.{JOURNAL, JOURNAL_LEN}
 use Rattle.sg_disk.proofs.Moments.{joined, weaker}
-use Rattle.sg_disk.proofs.Standing.{between_either}
+use Rattle.sg_contents.proofs.Standing.{between_either}
 use Rattle.sg_disk.proofs.Writes.{within_joined}
 use Rattle.sg_disk.proofs.Keeping.{keeps_within}
 use Rattle.sg_journal.proofs.journal.Journal.append.Goals as goal

@@ -1,7 +1,8 @@
 use Rattle.std.proofs.Common.{ℕ, List, length, refl, sym, ◌∙◌, ap, subst, inl}
 use Rattle.sg_disk.specs.View.{Only}
 use Rattle.sg_disk.specs.Contents.{played}
-use Rattle.sg_disk.specs.StandsFor.{fields, StandsFor, Either}
+use Rattle.sg_disk.specs.StandsFor.{fields}
+use Rattle.sg_contents.specs.StandsFor.{StandsFor, Either}
 use Rattle.sg_disk.proofs.Moments.{weaker}
 use Rattle.sg_journal.proofs.JournalSteps.{fields_within, filling_moments, recording_moments, recording_ready, recording_within}
 use Rattle.sg_journal.proofs.journal.Journal.write_record.Goals as goal
