@@ -1,0 +1,4 @@
+pub mod Keys
+pub mod Calls
+pub mod Outcomes
+pub mod Answers
