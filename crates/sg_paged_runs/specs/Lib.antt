@@ -1,0 +1,4 @@
+pub mod Stage
+pub mod Lawful
+pub mod Steps
+pub mod Stops
