@@ -13,17 +13,17 @@ use sg_routes::Asked;
 use sg_tables::{RowId, Tables};
 
 /// Whether a message with this key may ask for this: the operator for what is no display's, each display for its own.
-pub fn may_ask(operator: &[u8], tables: &Tables, asked: Asked, key: Option<&[u8]>) -> bool
-    ensures { result ≡ may_ask operator.now tables.now.rows asked (option_map (λ k. k.now) key.entry) }
+pub fn may_ask(operator: &[u8], tables: &Tables, asked: &Asked, key: Option<&[u8]>) -> bool
+    ensures { result ≡ may_ask operator.now tables.now.rows asked.now (option_map (λ k. k.now) key.entry) }
 {
     match asked {
         Asked::Edits => is_key(operator, key),
         Asked::Piece { .. } => is_key(operator, key),
         Asked::Report { .. } => is_key(operator, key),
-        Asked::Enrol(display) => opens(tables, display, key),
-        Asked::Manifest(display) => opens(tables, display, key),
-        Asked::File { display, .. } => opens(tables, display, key),
-        Asked::Plays(display) => opens(tables, display, key),
+        Asked::Enrol(display) => opens(tables, *display, key),
+        Asked::Manifest(display) => opens(tables, *display, key),
+        Asked::File { display, .. } => opens(tables, *display, key),
+        Asked::Plays(display) => opens(tables, *display, key),
     }
 }
 
