@@ -1,0 +1,5 @@
+pub mod FoldLemmas
+pub mod ReadLemmas
+pub mod RunLemmas
+pub mod EndLemmas
+pub mod SayLemmas

@@ -1,0 +1,4 @@
+pub mod Asking
+pub mod Reading
+pub mod Edits
+pub mod Answering
