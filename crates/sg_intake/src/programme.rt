@@ -87,9 +87,11 @@ pub trait Programme: Intake {
         requires long { length text.now ≤ MANIFEST_TEXT }
         requires disk { (D.view disk.old).size ≡ Self.room self.old }
 
-        // After `Ok` its files and no others are held, and the number is one higher.
+        // After `Ok` its files and no others are held, and the number is one higher. Where the text before it was
+        // known, this one is.
         ensures number { OnOk result (number self.new ≡ number self.old + 1) }
-        ensures shows { OnOk result (shows self.new (D.view disk.new) (Some text.now)) }
+        ensures shows { OnOk result ((shown : Option (List ℕ)) → shows self.old (D.view disk.old) shown
+            → shows self.new (D.view disk.new) (Some text.now)) }
         ensures part { OnOk result (Self.part self.new ≡ None) }
         ensures holds { OnOk result ((f : Listed)
             → Self.holds self.new f ≡ is_listed files.now f) }
