@@ -5,14 +5,13 @@ ghost use Rattle.sg_endings.specs.Ends.{Ends};
 ghost use Rattle.sg_endings.specs.Stops.{status_of, text_of};
 ghost use Rattle.sg_keeper.specs.View.{Ran, Same};
 ghost use Rattle.sg_report.specs.Report.{IsReport};
-ghost use Rattle.sg_report_command.specs.Faults.{StopsCounting, stop_of};
+ghost use Rattle.sg_report_command.specs.Faults.{StopsCounting};
 ghost use Rattle.sg_report_command.specs.Reports.{Reports};
 
 use sg_base::Moment;
-use sg_base::limits::PLAYS_LIMIT;
 use sg_endings::{Stop, finish, put_last};
 use sg_keeper::{Keeper, KeeperFail};
-use sg_loading::{LoadFault, load};
+use sg_opening::open_server;
 use sg_outside::Sink;
 use sg_report::plays_csv;
 use std::alloc::Global;
@@ -56,13 +55,13 @@ fn text_of_report<K: Keeper>(
         Reports from to (K.view keeper.old) (K.view keeper.new) (status_of stop) (text_of stop)) }
     ensures same { Same (K.view keeper.old) (K.view keeper.new) }
 {
-    match load(alloc, keeper, PLAYS_LIMIT) {
+    match open_server(alloc, keeper) {
         Ok(_) => counted(alloc, from, to, keeper),
-        Err(fault) => Err(stop_of(fault)),
+        Err(stop) => Err(stop),
     }
 }
 
-// The text of the report over rows that were loaded.
+// The text of the report over rows of a server that was opened.
 fn counted<K: Keeper>(
     alloc: Global,
     from: Moment,
@@ -78,16 +77,5 @@ fn counted<K: Keeper>(
         Ok(text) => Ok(text),
         Err(KeeperFail::Failed) => Err(Stop::Keeper),
         Err(KeeperFail::Memory) => Err(Stop::Memory),
-    }
-}
-
-// How a command ends that loads no server.
-fn stop_of(fault: LoadFault) -> Stop
-    ensures { result ≡ stop_of fault }
-{
-    match fault {
-        LoadFault::Keeper => Stop::Keeper,
-        LoadFault::BadRow(key) => Stop::BadRow(key),
-        LoadFault::Memory => Stop::Memory,
     }
 }
