@@ -1,6 +1,7 @@
 // The store in memory, and its calls that need no disk.
 ghost use Rattle.std.specs.Prelude.{◌≡◌, ◌≤◌, ◌<◌, length, slice_index_or};
 ghost use Rattle.sg_placing.specs.declared.placed.Placed.{Placed};
+ghost use Rattle.sg_store_state.specs.State.{IsKept};
 
 use sg_base::Listed;
 use sg_pages::Shelf;
@@ -71,7 +72,11 @@ impl Store {
 
     /// The length of the data area in bytes.
     pub fn room(&self) -> u64
-        ensures { result ≡ self.now.room }
+        ensures room { result ≡ self.now.room }
+
+        // What is so of every store, whatever disk it is: its files and what is staged stand in the data area, and no byte of it is
+        // taken twice.
+        ensures kept { IsKept self.now.room self.now.text self.now.current self.now.staged }
     {
         self.room
     }
