@@ -3,15 +3,16 @@ use Rattle.std.proofs.Common.{◌≡◌, ℕ, ◌+◌, ◌<◌, ◌≤◌, true,
 use Rattle.sg_base.specs.declared.limits.TheConstants.{MANIFEST_TEXT}
 use Rattle.sg_manifest.specs.declared.fault.ManifestFault.{ManifestFault}
 use Rattle.sg_manifest.specs.declared.fault.ManifestFault.TheVariants.{Memory as OutOfMemory}
+use Rattle.sg_lines.specs.Reading.{Input}
 use Rattle.sg_manifest.specs.Faults.{has_cause}
 use Rattle.sg_manifest.specs.Snapshot.{SnapshotRow}
 use Rattle.signage.specs.declared.stop.Stop.{Stop}
 use Rattle.signage.specs.declared.stop.Stop.TheVariants.{Usage, TooLong, NoManifest, Read, Memory}
-use Rattle.signage.specs.Texts.{memory_fault}
+use Rattle.sg_endings.specs.Texts.{memory_fault}
 use Rattle.signage.specs.Stop.{status_of, text_of}
 use Rattle.signage.specs.Lines.{lines_of}
 use Rattle.sg_manifest.specs.Text.{IsManifest}
-use Rattle.signage.specs.Preview.{Input, TakesAll, Reads, IsPreview, body_of}
+use Rattle.signage.specs.Preview.{TakesAll, Reads, IsPreview, body_of}
 use Rattle.signage.specs.Loading.{ReadsSome, Stops, Refused}
 use Rattle.signage.specs.Printing.{IsTimeline}
 

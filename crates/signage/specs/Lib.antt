@@ -6,4 +6,3 @@ pub mod Loading
 pub mod Words
 pub mod Top
 pub mod Printing
-pub mod Places

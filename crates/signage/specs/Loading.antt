@@ -4,10 +4,11 @@ use Rattle.std.specs.declared.option.Option.{Option}
 use Rattle.std.specs.Io.KnownBytes.{Consumes, IsAtEnd}
 use Rattle.sg_base.specs.declared.limits.TheConstants.{MANIFEST_TEXT}
 use Rattle.sg_base.specs.Causes.{Rose}
+use Rattle.sg_lines.specs.Reading.{Input}
 use Rattle.sg_manifest.specs.Reading.{manifest_at}
 use Rattle.signage.specs.declared.stop.Stop.{Stop}
 use Rattle.signage.specs.declared.stop.Stop.TheVariants.{Usage, TooLong, NoManifest, Read, Memory}
-use Rattle.signage.specs.Preview.{Input, IsLong, IsRefused}
+use Rattle.signage.specs.Preview.{IsLong, IsRefused}
 
 -- these bytes were taken: all that there was, or one more than an input may have
 pub record ReadsSome (old new : Option (List ℕ)) (bytes : List ℕ) : Type 0 where

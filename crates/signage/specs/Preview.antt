@@ -4,21 +4,14 @@ use Rattle.std.specs.declared.option.Option.{Option}
 use Rattle.std.specs.Io.KnownBytes.{Consumes, IsAtEnd}
 use Rattle.sg_base.specs.declared.limits.TheConstants.{MANIFEST_TEXT}
 use Rattle.sg_base.specs.Causes.{Rose}
+use Rattle.sg_lines.specs.Reading.{Input}
 use Rattle.sg_manifest.specs.Snapshot.{SnapshotRow}
 use Rattle.sg_manifest.specs.declared.fault.ManifestFault.{ManifestFault}
 use Rattle.sg_manifest.specs.Reading.{manifest_at}
 use Rattle.sg_manifest.specs.Text.{IsManifest}
-use Rattle.signage.specs.Texts.{too_long, no_manifest, read_fault, memory_fault}
+use Rattle.sg_endings.specs.Texts.{too_long, read_fault, memory_fault}
+use Rattle.signage.specs.Texts.{no_manifest}
 use Rattle.signage.specs.Lines.{lines_of}
-
--- a command's input at a time: the bytes left, where they are told, and the count of faults
-pub record Input : Type 0 where
-  pub left : Option (List ℕ)
-  pub faults : ℕ
-
--- the input as a source has it, by what it has left and by its count
-abbrev pub side : {A : Type 0} → (A → Option (List ℕ)) → (A → ℕ) → A → Input
-side left faults source = record { left = left source; faults = faults source }
 
 -- one final line feed is dropped
 abbrev pub body_of : List ℕ → List ℕ

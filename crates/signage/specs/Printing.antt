@@ -2,9 +2,9 @@
 use Rattle.std.specs.Prelude.{◌≡◌, ℕ, List, [], ◌∷◌, Contains}
 use Rattle.std.specs.declared.option.Option.{Option}
 use Rattle.sg_manifest.specs.Snapshot.{SnapshotRow}
-use Rattle.signage.specs.Texts.{memory_fault}
+use Rattle.sg_endings.specs.Ends.{Ends}
+use Rattle.sg_endings.specs.Texts.{memory_fault}
 use Rattle.signage.specs.Lines.{lines_of}
-use Rattle.signage.specs.Top.{Ends}
 
 -- every line, or none where memory ran out
 pub record IsTimeline (s : SnapshotRow) (moments : List ℕ) (status : ℕ) (output : List ℕ) : Type 0 where

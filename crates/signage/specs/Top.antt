@@ -1,37 +1,32 @@
--- How a command ends, and what each command does.
-use Rattle.std.specs.Prelude.{◌≡◌, ◌≢◌, ℕ, List, [], ◌∷◌, Contains}
-use Rattle.std.specs.declared.option.Option.{Option}
-use Rattle.std.specs.Io.KnownBytes.{Appends}
-use Rattle.sg_base.specs.Causes.{Rose}
-use Rattle.sg_outside.specs.Streams.{AppendsPart}
+-- What each command does, and what it leaves alone.
+use Rattle.std.specs.Prelude.{◌≡◌, ℕ, List, [], ◌∷◌, Contains}
+use Rattle.sg_edit_command.specs.Edits.{EditsRows}
+use Rattle.sg_endings.specs.Texts.{memory_fault}
+use Rattle.sg_keeper.specs.View.{Same, View}
+use Rattle.sg_lines.specs.Reading.{Input}
+use Rattle.sg_report_command.specs.Reports.{Reports}
 use Rattle.signage.specs.declared.command.Command.{Command}
-use Rattle.signage.specs.declared.command.Command.TheVariants.{Preview}
-use Rattle.signage.specs.Texts.{usage, memory_fault}
-use Rattle.signage.specs.Preview.{Input, IsPreview}
+use Rattle.signage.specs.declared.command.Command.TheVariants.{Edit, Preview, Report}
+use Rattle.signage.specs.Texts.{usage}
+use Rattle.signage.specs.Preview.{IsPreview}
 
--- the whole of an output with this status was written
-pub record Writes (Output : ℕ → List ℕ → Type 0) (status : ℕ) (old new : Option (List ℕ)) : Type 0 where
-  pub text : List ℕ
-  pub is : Output status text
-  pub put : Appends old new text
+-- what each command does with its input and its keeper
+abbrev pub Does : Command → Input → Input → View → View → ℕ → List ℕ → Type 0
+Does (Preview moments) before after old new status output = IsPreview before after moments status output
+Does (Report from to) before after old new status output = Reports from to old new status output
+Does Edit before after old new status output = EditsRows before after old new status output
 
--- the sink failed, and has got the front of an output with another status
-pub record BreaksOff (Output : ℕ → List ℕ → Type 0) (old new : Option (List ℕ)) (faults faults' : ℕ) : Type 0 where
-  pub rose : Rose faults faults'
-  pub status : ℕ
-  pub text : List ℕ
-  pub is : Output status text
-  pub put : AppendsPart old new text
+-- the source and the keeper of which it makes no use are as they were
+abbrev pub LeavesAlone : {S K : Type 0} → Command → S → S → K → K → Type 0
+LeavesAlone (Preview moments) source source' keeper keeper' = keeper' ≡ keeper
+LeavesAlone (Report from to) source source' keeper keeper' = source' ≡ source
+LeavesAlone Edit source source' keeper keeper' = Unit {0}
 
--- A command ends: with its status and output, and no put has failed; or with 5, and the sink failed.
-pub record Ends (Output : ℕ → List ℕ → Type 0) (status : ℕ) (old new : Option (List ℕ)) (faults faults' : ℕ) : Type 0 where
-  pub done : status ≢ 5 → Writes Output status old new
-  pub quiet : status ≢ 5 → faults' ≡ faults
-  pub write : status ≡ 5 → BreaksOff Output old new faults faults'
-
--- what each command does with its input
-abbrev pub Does : Command → Input → Input → ℕ → List ℕ → Type 0
-Does (Preview moments) before after = IsPreview before after moments
+-- the rows of the keeper are as they were, but for the edits
+abbrev pub KeepsRows : Command → View → View → Type 0
+KeepsRows (Preview moments) old new = Same old new
+KeepsRows (Report from to) old new = Same old new
+KeepsRows Edit old new = Unit {0}
 
 -- words that name no command: the usage line, unless memory runs out
 pub record IsUsage (status : ℕ) (output : List ℕ) : Type 0 where

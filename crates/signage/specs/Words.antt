@@ -1,12 +1,11 @@
 -- The command table: which words name which command.
-use Rattle.std.specs.Prelude.{◌≡◌, ℕ, ◌≤◌, List, [], ◌∷◌, length, map, codes}
+use Rattle.std.specs.Prelude.{◌≡◌, ℕ, ◌≤◌, List, [], ◌∷◌, Option, Some, None, length, codes}
 use Rattle.std.specs.Fmt.{decimal}
-use Rattle.std.specs.declared.string.String.{String}
-use Rattle.std.specs.declared.alloc.Global.{Global}
-use Rattle.std.specs.String.{string_bytes}
 use Rattle.sg_base.specs.declared.limits.TheConstants.{LAST_MOMENT, PREVIEW_MOMENTS}
 use Rattle.signage.specs.declared.command.Command.{Command}
-use Rattle.signage.specs.declared.command.Command.TheVariants.{Preview}
+use Rattle.signage.specs.declared.command.Command.TheVariants.{Edit, Preview, Report}
+use Rattle.sg_words.specs.Table.{Said, said_in}
+use Rattle.sg_words.specs.Table.Said.{Edit as SaidEdit, Format as SaidFormat, Made as SaidMade, Play as SaidPlay, Rehearse as SaidRehearse, Report as SaidReport, Serve as SaidServe}
 
 -- a moment is written as a decimal number, without a sign or a leading zero
 pub record IsMoment (word : List ℕ) (moment : ℕ) : Type 0 where
@@ -33,15 +32,34 @@ pub record ArePreviewWords (words : List (List ℕ)) (ms : List ℕ) : Type 0 wh
 -- a preview of the moments that the words are
 abbrev pub IsPreviewOf : List (List ℕ) → Command → Type 0
 IsPreviewOf words (Preview moments) = ArePreviewWords words moments
+IsPreviewOf words (Report from to) = ⊥
+IsPreviewOf words Edit = ⊥
 
 -- `preview` and its moments
 pub record NamesPreview (word : List ℕ) (words : List (List ℕ)) (ms : List ℕ) : Type 0 where
   pub command : word ≡ codes "preview"
   pub moments : ArePreviewWords words ms
 
+-- what this program does for what the words say; the places that they name are `places_in`
+abbrev pub command_said : Option Said → Option Command
+command_said None = None
+command_said (Some (SaidFormat store server display key room)) = None
+command_said (Some (SaidPlay store server key every panel)) = None
+command_said (Some (SaidServe db listen key connections)) = None
+command_said (Some (SaidEdit db)) = Some Edit
+command_said (Some (SaidReport db from to)) = Some (Report from to)
+command_said (Some SaidRehearse) = None
+command_said (Some (SaidMade number)) = None
+
+-- the words say this command by the command table, which has all commands but `preview`
+abbrev pub Says : List (List ℕ) → Command → Type 0
+Says words c = command_said (said_in words) ≡ Some c
+
 -- the first word and the others name this command
 abbrev pub NamedBy : List ℕ → List (List ℕ) → Command → Type 0
 NamedBy word words (Preview moments) = NamesPreview word words moments
+NamedBy word words (Report from to) = Says (word ∷ words) (Report from to)
+NamedBy word words Edit = Says (word ∷ words) Edit
 
 -- the words name this command
 abbrev pub Names : List (List ℕ) → Command → Type 0
@@ -51,7 +69,3 @@ Names (w ∷ ws) c = NamedBy w ws c
 -- the words are in no line of the command table
 abbrev pub NamesNone : List (List ℕ) → Type 0
 NamesNone words = (c : Command) → Names words c → ⊥
-
--- the words as texts
-abbrev pub texts : List (String Global) → List (List ℕ)
-texts words = map (λ w. string_bytes w) words

@@ -1,10 +1,13 @@
 //! The words of the command line.
 
-ghost use Rattle.std.specs.Prelude.{ℕ, List, IfOk, MatchOption};
-ghost use Rattle.signage.specs.Words.{Names, NamedBy, NamesNone, IsMoment, AreMoments, NoMoments, ArePreviewWords, IsPreviewOf, texts};
+ghost use Rattle.std.specs.Prelude.{◌≡◌, ℕ, List, ◌∷◌, Some, IfOk, MatchOption};
+ghost use Rattle.sg_words.specs.Options.{texts};
+ghost use Rattle.sg_words.specs.Table.{said, said_in};
+ghost use Rattle.signage.specs.Words.{Names, NamedBy, NamesNone, IsMoment, AreMoments, NoMoments, ArePreviewWords, IsPreviewOf, command_said};
 
 use sg_base::limits::PREVIEW_MOMENTS;
 use sg_base::{Moment, Rows};
+use sg_words::Command as Said;
 use std::alloc::{AllocError, Global};
 
 /// What the words ask for.
@@ -12,6 +15,10 @@ use std::alloc::{AllocError, Global};
 pub enum Command {
     /// The timeline of one manifest at these moments, of which there are 1 to 1,000.
     Preview(Rows<Moment>),
+    /// The report of the plays that begin from one moment on and before another.
+    Report(Moment, Moment),
+    /// The edits of the input.
+    Edit,
 }
 
 /// The command that the words name, if they are in the command table.
@@ -20,12 +27,18 @@ pub(crate) fn command_of(alloc: Global, words: &[String]) -> Result<Option<Comma
 {
     match words {
         [] => Ok(None),
-        [name, others @ ..] => named(alloc, name.as_str(), others),
+        [name, others @ ..] => named(alloc, name.as_str(), others, words),
     }
 }
 
-/// The command of this name with these words.
-fn named(alloc: Global, name: &str, others: &[String]) -> Result<Option<Command>, AllocError>
+/// The command of this name with these words after it.
+fn named(
+    alloc: Global,
+    name: &str,
+    others: &[String],
+    words: &[String],
+) -> Result<Option<Command>, AllocError>
+    requires { texts words.now ≡ name.now ∷ texts others.now }
     ensures { IfOk result (λ o. MatchOption o
         ((c : Command) → NamedBy name.now (texts others.now) c → ⊥)
         (λ c. NamedBy name.now (texts others.now) c)) }
@@ -33,7 +46,32 @@ fn named(alloc: Global, name: &str, others: &[String]) -> Result<Option<Command>
     if name == "preview" {
         preview_of(alloc, others)
     } else {
-        Ok(None)
+        command_said(alloc, words)
+    }
+}
+
+/// The command that the words say by the command table, if this program has it.
+fn command_said(alloc: Global, words: &[String]) -> Result<Option<Command>, AllocError>
+    ensures { IfOk result (λ o. o ≡ command_said (said_in (texts words.now))) }
+{
+    match sg_words::command_of(alloc, words) {
+        Ok(Some(found)) => Ok(command_in(&found)),
+        Ok(None) => Ok(None),
+        Err(refused) => Err(refused),
+    }
+}
+
+fn command_in(found: &Said<'_>) -> Option<Command>
+    ensures { result ≡ command_said (Some (said found.now)) }
+{
+    match found {
+        Said::Report { from, to, .. } => Some(Command::Report(*from, *to)),
+        Said::Edit { .. } => Some(Command::Edit),
+        Said::Format { .. }
+        | Said::Play { .. }
+        | Said::Serve { .. }
+        | Said::Rehearse
+        | Said::Made(_) => None,
     }
 }
 

@@ -3,7 +3,8 @@
 ghost use Rattle.std.specs.Prelude.{◌≡◌, ◌<◌, ◌≤◌, vec_len, IfOk, MatchResult};
 ghost use Rattle.std.specs.Io.KnownBytes.{Consumes, IsAtEnd};
 ghost use Rattle.sg_manifest.specs.Text.{IsManifest};
-ghost use Rattle.signage.specs.Preview.{Reads, side, body_of};
+ghost use Rattle.sg_lines.specs.Reading.{side};
+ghost use Rattle.signage.specs.Preview.{Reads, body_of};
 ghost use Rattle.signage.specs.Loading.{Stops, ReadsSome, Refused};
 
 use crate::stop::Stop;

@@ -1,13 +1,15 @@
 //! signage: a digital signage server and a crash-safe offline player.
 //!
-//! `main` makes the real source and sink and calls `top`, which reads the words of the command line and does
+//! `main` makes the real source, sink and keeper and calls `top`, which reads the words of the command line and does
 //! the one command that they name. What each command does is defined in `specs/`: the words (`Words.antt`),
-//! how a command ends (`Top.antt`), `preview` (`Preview.antt`), its lines (`Lines.antt`) and the texts
-//! (`Texts.antt`).
+//! each command (`Top.antt`), `preview` (`Preview.antt`), its lines (`Lines.antt`) and the texts
+//! (`Texts.antt`). How a command ends is defined in `sg_endings`, `report` in
+//! `sg_report_command`, and `edit` in `sg_edit_command`.
 #![tactic(auto)]
 
-use placing::places;
-use sg_outside::{Sink, Source, StdSink, StdSource};
+use sg_keeper_sqlite::SqliteKeeper;
+use sg_outside::{StdSink, StdSource};
+use sg_words::{Places, places};
 use std::env;
 use std::io::ErrorKind;
 use std::process::ExitCode;
@@ -20,8 +22,8 @@ mod display;
 #[cfg(test)]
 mod faults;
 mod input;
-mod place;
-mod placing;
+#[cfg(test)]
+mod keeping;
 mod previews;
 mod stop;
 #[cfg(test)]
@@ -31,22 +33,31 @@ mod tops;
 mod worked;
 
 fn main(rt: HostRuntime) -> ExitCode {
-    let mut outside = Outside {
-        source: StdSource::new(rt.stdin()),
-        out: StdSink::new(rt.stdout()),
-    };
-    ExitCode::from(run(&rt, &mut outside))
+    ExitCode::from(run(rt))
 }
 
 /// Reads the words and does their command. Words that aren't UTF-8 are in no line of the command table.
-fn run<R: Env + AllocGlobal, S: Source, O: Sink>(rt: &R, outside: &mut Outside<S, O>) -> u8 {
-    match words_of(rt) {
+fn run(rt: HostRuntime) -> u8 {
+    match words_of(&rt) {
         Ok(words) => match places(rt.alloc(), words.as_slice()) {
-            Ok(_) => top(rt.alloc(), words.as_slice(), outside),
-            Err(_) => finish(&mut outside.out, Stop::Memory),
+            Ok(places) => follow(rt, words.as_slice(), places),
+            Err(_) => finish(&mut StdSink::new(rt.stdout()), Stop::Memory),
         },
-        Err(stop) => finish(&mut outside.out, stop),
+        Err(stop) => finish(&mut StdSink::new(rt.stdout()), stop),
     }
+}
+
+/// Does the command of the words over the real objects, of which each is opened at its first call.
+fn follow(rt: HostRuntime, words: &[String], places: Places) -> u8 {
+    let alloc = rt.alloc();
+    let source = StdSource::new(rt.stdin());
+    let out = StdSink::new(rt.stdout());
+    let mut outside = Outside {
+        source,
+        out,
+        keeper: SqliteKeeper::new(rt, places.db),
+    };
+    top(alloc, words, &mut outside)
 }
 
 /// The words of the command line, without the program's name.

@@ -1,14 +1,16 @@
 //! `preview`: the timeline of one manifest at some moments.
 
 ghost use Rattle.std.specs.Prelude.{◌≡◌, ◌<◌};
-ghost use Rattle.signage.specs.Preview.{IsPreview, side};
-ghost use Rattle.signage.specs.Top.{Ends};
+ghost use Rattle.sg_endings.specs.Ends.{Ends};
+ghost use Rattle.sg_lines.specs.Reading.{side};
+ghost use Rattle.signage.specs.Preview.{IsPreview};
 ghost use Rattle.signage.specs.Printing.{Prints};
 
 use crate::display::Display;
 use crate::input::load;
-use crate::stop::{Stop, WRITE_FAULT, finish};
+use crate::stop::{Stop, finish};
 use sg_base::{Moment, Steps};
+use sg_endings::WRITE_FAULT;
 use sg_manifest::Snapshot;
 use sg_outside::{Sink, Source, put_all};
 use std::alloc::Global;

@@ -1,11 +1,13 @@
 //! The ends of a command that have a text of their own.
 
-ghost use Rattle.std.specs.Prelude.{◌≡◌, ◌≢◌, OnOk};
-ghost use Rattle.signage.specs.Stop.{status_of, text_of, Finishes};
+ghost use Rattle.std.specs.Prelude.{◌≡◌, ◌≢◌};
+ghost use Rattle.sg_endings.specs.Ends.{Finishes};
+ghost use Rattle.signage.specs.Stop.{status_of, text_of};
 ghost use Rattle.signage.specs.Texts.{no_manifest};
 
+use sg_endings::put_last;
 use sg_manifest::ManifestFault;
-use sg_outside::{Sink, put_all};
+use sg_outside::Sink;
 
 /// Why a command ends without having done its work.
 #[derive(Clone, Copy, Debug, PartialEq, Eq)]
@@ -25,7 +27,8 @@ pub(crate) enum Stop {
 impl Stop {
     /// The status that the command answers.
     fn status(self) -> u8
-        ensures { result ≡ status_of self }
+        ensures value { result ≡ status_of self }
+        ensures other { result ≢ 5 }
     {
         match self {
             Stop::Usage => 2,
@@ -36,7 +39,7 @@ impl Stop {
     }
 
     /// The line that the command writes.
-    #[tactic(auto, unfolding(crate::specs::Texts::usage, crate::specs::Texts::too_long, crate::specs::Texts::read_fault, crate::specs::Texts::memory_fault))]
+    #[tactic(auto, unfolding(crate::specs::Texts::usage, sg_endings::specs::Texts::too_long, sg_endings::specs::Texts::read_fault, sg_endings::specs::Texts::memory_fault))]
     fn text(self) -> &'static str
         ensures { result.now ≡ text_of self }
     {
@@ -67,16 +70,10 @@ fn no_manifest(fault: ManifestFault) -> &'static str
     }
 }
 
-/// The status of a sink that failed.
-pub(crate) const WRITE_FAULT: u8 = 5;
-
 /// Writes a stop's line and answers its status, or 5 where the sink fails.
 pub(crate) fn finish<O: Sink>(out: &mut O, stop: Stop) -> u8
     ensures { Finishes (status_of stop) (text_of stop) result (O.written out.old)
         (O.written out.new) (O.put_faults out.old) (O.put_faults out.new) }
 {
-    match put_all(out, stop.text().as_bytes()) {
-        Ok(()) => stop.status(),
-        Err(_) => WRITE_FAULT,
-    }
+    put_last(out, stop.status(), stop.text().as_bytes())
 }

@@ -1,7 +1,7 @@
-use crate::placing::places;
 use crate::previews::preview;
 use crate::tops::{Outside, top};
 use sg_base::Moment;
+use sg_keeper::MapKeeper;
 use sg_outside::{MemSink, MemSource};
 use std::alloc::Global;
 use std::process::Abort;
@@ -35,7 +35,7 @@ const LIMIT: &str = "input: manifest Limit\n";
 const NOT_CANONICAL: &str = "input: manifest NotCanonical\n";
 
 // The words of a line, parted by single spaces.
-fn words_of(alloc: Global, line: &str) -> Result<Vec<String>, Fail> {
+pub(crate) fn words_of(alloc: Global, line: &str) -> Result<Vec<String>, Fail> {
     let mut words = Vec::new(alloc);
     for word in line.split_whitespace() {
         words.push(String::from_str(alloc, word)?)?;
@@ -58,7 +58,12 @@ pub(crate) fn expect(
     text: &str,
 ) -> Result<(), Fail> {
     let words = words_of(alloc, line)?;
-    let mut outside = Outside { source, out };
+    let keeper = MapKeeper::new(alloc);
+    let mut outside = Outside {
+        source,
+        out,
+        keeper,
+    };
     let answer = top(alloc, words.as_slice(), &mut outside);
     assert_eq!(rt; answer, status, "status of {line}");
     assert_eq!(rt; outside.out.bytes(), text.as_bytes(), "output of {line}");
@@ -370,17 +375,4 @@ fn previews_most_layouts(rt: HostRuntime) -> Result<(), Fail> {
         0,
         "511 e0 l512 s0 o511 r2:m1\n512 e0 l512 s512 o0 r2:m1\n",
     )
-}
-
-#[test]
-fn places_are_empty(rt: HostRuntime) -> Result<(), Fail> {
-    let alloc = rt.alloc();
-    let words = words_of(alloc, "preview 0")?;
-    let places = places(alloc, words.as_slice())?;
-    let all = format!(in alloc;
-        "{}{}{}{}{}",
-        places.store, places.db, places.server, places.listen, places.panel
-    )?;
-    assert_eq!(rt; all.as_str(), "");
-    Ok(())
 }

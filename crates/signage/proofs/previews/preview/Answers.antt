@@ -1,7 +1,8 @@
+use Rattle.sg_lines.specs.Reading.{Input}
 use Rattle.signage.specs.Stop.{status_of, text_of}
-use Rattle.signage.specs.Preview.{Input, IsPreview}
+use Rattle.signage.specs.Preview.{IsPreview}
 use Rattle.signage.specs.Printing.{IsTimeline}
-use Rattle.signage.proofs.Endings.{stopped_first, retold}
+use Rattle.sg_endings.proofs.Endings.{stopped_first, retold}
 use Rattle.signage.proofs.PreviewLemmas.{previewed, stop_preview}
 use Rattle.signage.proofs.previews.preview.Goals as goal
 

@@ -1,6 +1,6 @@
-use Rattle.signage.specs.Texts.{memory_fault}
+use Rattle.sg_endings.specs.Texts.{memory_fault}
 use Rattle.signage.specs.Printing.{IsTimeline}
-use Rattle.signage.proofs.Endings.{stopped_first}
+use Rattle.sg_endings.proofs.Endings.{stopped_first}
 use Rattle.signage.proofs.PreviewLemmas.{no_lines}
 use Rattle.signage.proofs.previews.show.Goals as goal
 

@@ -3,7 +3,7 @@ use Rattle.sg_base.specs.Causes.{Rose}
 use Rattle.sg_manifest.specs.Snapshot.{SnapshotRow}
 use Rattle.signage.specs.Lines.{line_at, lines_of}
 use Rattle.signage.proofs.LineLemmas.{around}
-use Rattle.signage.proofs.Endings.{part_behind, part_more}
+use Rattle.sg_endings.proofs.Endings.{part_behind, part_more}
 use Rattle.signage.proofs.PreviewLemmas.{all_lines}
 use Rattle.signage.proofs.previews.show_all.Goals as goal
 
