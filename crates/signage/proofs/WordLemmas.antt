@@ -8,7 +8,7 @@ use Rattle.std.specs.declared.alloc.AllocError.{AllocError}
 use Rattle.sg_words.specs.Table.{Said, said_by, said_in}
 use Rattle.sg_words.specs.Table.Said.{Edit as SaidEdit, Format as SaidFormat, Made as SaidMade, Play as SaidPlay, Rehearse as SaidRehearse, Report as SaidReport, Serve as SaidServe}
 use Rattle.signage.specs.declared.command.Command.{Command}
-use Rattle.signage.specs.declared.command.Command.TheVariants.{Edit, Preview, Report}
+use Rattle.signage.specs.declared.command.Command.TheVariants.{Edit, Preview, Report, Serve}
 use Rattle.signage.specs.Words.{ArePreviewWords, IsMoment, AreMoments, IsPreviewOf, NamedBy, Says, command_said}
 
 -- a word that is the decimal of a number is a moment exactly where the number is
@@ -68,6 +68,7 @@ none_named : (w : List ℕ) (ws : List (List ℕ)) → w ≡ codes "preview" →
 none_named w ws is h (Preview ms) named = h ms named.moments
 none_named w ws is h (Report from to) named = no_said w ws (Report from to) is named
 none_named w ws is h Edit named = no_said w ws Edit is named
+none_named w ws is h (Serve key n) named = no_said w ws (Serve key n) is named
 
 -- what `preview` names
 pub preview_named : (w : List ℕ) (ws : List (List ℕ)) (r : Result (Option Command) AllocError) → w ≡ codes "preview"
@@ -77,6 +78,7 @@ preview_named w ws (Ok None) is h = none_named w ws is h
 preview_named w ws (Ok (Some (Preview ms))) is h = record { command = is; moments = h }
 preview_named w ws (Ok (Some (Report from to))) is h = absurd h
 preview_named w ws (Ok (Some Edit)) is h = absurd h
+preview_named w ws (Ok (Some (Serve key n))) is h = absurd h
 
 -- the table has no preview
 no_preview : (o : Option Said) (ms : List ℕ) → Some (Preview ms) ≡ command_said o → ⊥
@@ -93,6 +95,7 @@ none_said : (w : List ℕ) (ws : List (List ℕ)) → (w ≡ codes "preview" →
 none_said w ws other h (Preview ms) named = other named.command
 none_said w ws other h (Report from to) named = let both : ◌≡◌ {A = Option Command} None (Some (Report from to)) = h ∙ named in cc
 none_said w ws other h Edit named = let both : ◌≡◌ {A = Option Command} None (Some Edit) = h ∙ named in cc
+none_said w ws other h (Serve key n) named = let both : ◌≡◌ {A = Option Command} None (Some (Serve key n)) = h ∙ named in cc
 
 -- what the words say by the table
 pub said_named : (w : List ℕ) (ws : List (List ℕ)) (r : Result (Option Command) AllocError) → (w ≡ codes "preview" → ⊥) → IfOk r (λ o. o ≡ command_said (said_in (w ∷ ws)))
@@ -102,3 +105,4 @@ said_named w ws (Ok None) other h = none_said w ws other h
 said_named w ws (Ok (Some (Preview ms))) other h = absurd (no_preview (said_in (w ∷ ws)) ms h)
 said_named w ws (Ok (Some (Report from to))) other h = sym h
 said_named w ws (Ok (Some Edit)) other h = sym h
+said_named w ws (Ok (Some (Serve key n))) other h = sym h

@@ -3,7 +3,7 @@ use Rattle.std.specs.Prelude.{◌≡◌, ℕ, ◌≤◌, List, [], ◌∷◌, Op
 use Rattle.std.specs.Fmt.{decimal}
 use Rattle.sg_base.specs.declared.limits.TheConstants.{LAST_MOMENT, PREVIEW_MOMENTS}
 use Rattle.signage.specs.declared.command.Command.{Command}
-use Rattle.signage.specs.declared.command.Command.TheVariants.{Edit, Preview, Report}
+use Rattle.signage.specs.declared.command.Command.TheVariants.{Edit, Preview, Report, Serve}
 use Rattle.sg_words.specs.Table.{Said, said_in}
 use Rattle.sg_words.specs.Table.Said.{Edit as SaidEdit, Format as SaidFormat, Made as SaidMade, Play as SaidPlay, Rehearse as SaidRehearse, Report as SaidReport, Serve as SaidServe}
 
@@ -34,6 +34,7 @@ abbrev pub IsPreviewOf : List (List ℕ) → Command → Type 0
 IsPreviewOf words (Preview moments) = ArePreviewWords words moments
 IsPreviewOf words (Report from to) = ⊥
 IsPreviewOf words Edit = ⊥
+IsPreviewOf words (Serve key connections) = ⊥
 
 -- `preview` and its moments
 pub record NamesPreview (word : List ℕ) (words : List (List ℕ)) (ms : List ℕ) : Type 0 where
@@ -45,7 +46,7 @@ abbrev pub command_said : Option Said → Option Command
 command_said None = None
 command_said (Some (SaidFormat store server display key room)) = None
 command_said (Some (SaidPlay store server key every panel)) = None
-command_said (Some (SaidServe db listen key connections)) = None
+command_said (Some (SaidServe db listen key connections)) = Some (Serve key connections)
 command_said (Some (SaidEdit db)) = Some Edit
 command_said (Some (SaidReport db from to)) = Some (Report from to)
 command_said (Some SaidRehearse) = None
@@ -60,6 +61,7 @@ abbrev pub NamedBy : List ℕ → List (List ℕ) → Command → Type 0
 NamedBy word words (Preview moments) = NamesPreview word words moments
 NamedBy word words (Report from to) = Says (word ∷ words) (Report from to)
 NamedBy word words Edit = Says (word ∷ words) Edit
+NamedBy word words (Serve key connections) = Says (word ∷ words) (Serve key connections)
 
 -- the words name this command
 abbrev pub Names : List (List ℕ) → Command → Type 0

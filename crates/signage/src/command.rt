@@ -19,6 +19,8 @@ pub enum Command {
     Report(Moment, Moment),
     /// The edits of the input.
     Edit,
+    /// So many connections, with this key of the operator.
+    Serve(Rows<u8>, u32),
 }
 
 /// The command that the words name, if they are in the command table.
@@ -55,23 +57,27 @@ fn command_said(alloc: Global, words: &[String]) -> Result<Option<Command>, Allo
     ensures { IfOk result (λ o. o ≡ command_said (said_in (texts words.now))) }
 {
     match sg_words::command_of(alloc, words) {
-        Ok(Some(found)) => Ok(command_in(&found)),
+        Ok(Some(found)) => command_in(alloc, &found),
         Ok(None) => Ok(None),
         Err(refused) => Err(refused),
     }
 }
 
-fn command_in(found: &Said<'_>) -> Option<Command>
-    ensures { result ≡ command_said (Some (said found.now)) }
+fn command_in(alloc: Global, found: &Said<'_>) -> Result<Option<Command>, AllocError>
+    ensures { IfOk result (λ o. o ≡ command_said (Some (said found.now))) }
 {
     match found {
-        Said::Report { from, to, .. } => Some(Command::Report(*from, *to)),
-        Said::Edit { .. } => Some(Command::Edit),
-        Said::Format { .. }
-        | Said::Play { .. }
-        | Said::Serve { .. }
-        | Said::Rehearse
-        | Said::Made(_) => None,
+        Said::Report { from, to, .. } => Ok(Some(Command::Report(*from, *to))),
+        Said::Edit { .. } => Ok(Some(Command::Edit)),
+        Said::Serve {
+            key,
+            connections,
+            ..
+        } => {
+            let key = Vec::from_slice(alloc, key.as_bytes())?;
+            Ok(Some(Command::Serve(Rows::from_vec(key), *connections)))
+        }
+        Said::Format { .. } | Said::Play { .. } | Said::Rehearse | Said::Made(_) => Ok(None),
     }
 }
 

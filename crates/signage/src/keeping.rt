@@ -5,7 +5,7 @@ use crate::tests::{USAGE, source_of, words_of};
 use crate::tops::{Outside, top};
 use sg_base::{Key, Rows};
 use sg_keeper::{Change, Keeper, MapKeeper};
-use sg_outside::MemSink;
+use sg_outside::{MemDoor, MemSink};
 use std::alloc::Global;
 use std::process::Abort;
 use std::test::Fail;
@@ -56,10 +56,12 @@ fn expect_kept(
     let words = words_of(alloc, run.words)?;
     let source = source_of(alloc, run.input)?.with_limit(9);
     let out = MemSink::new(alloc);
+    let door = MemDoor::new(alloc, Vec::new(alloc));
     let mut outside = Outside {
         source,
         out,
         keeper,
+        door,
     };
     let answer = top(alloc, words.as_slice(), &mut outside);
     assert_eq!(rt; answer, run.status, "{}", run.words);

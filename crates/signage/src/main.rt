@@ -1,14 +1,14 @@
 //! signage: a digital signage server and a crash-safe offline player.
 //!
-//! `main` makes the real source, sink and keeper and calls `top`, which reads the words of the command line and does
+//! `main` makes the real source, sink, keeper and door and calls `top`, which reads the words of the command line and does
 //! the one command that they name. What each command does is defined in `specs/`: the words (`Words.antt`),
 //! each command (`Top.antt`), `preview` (`Preview.antt`), its lines (`Lines.antt`) and the texts
 //! (`Texts.antt`). How a command ends is defined in `sg_endings`, `report` in
-//! `sg_report_command`, and `edit` in `sg_edit_command`.
+//! `sg_report_command`, `edit` in `sg_edit_command`, and `serve` in `sg_serve_command`.
 #![tactic(auto)]
 
 use sg_keeper_sqlite::SqliteKeeper;
-use sg_outside::{StdSink, StdSource};
+use sg_outside::{StdSink, StdSource, TcpDoor};
 use sg_words::{Places, places};
 use std::env;
 use std::io::ErrorKind;
@@ -56,6 +56,7 @@ fn follow(rt: HostRuntime, words: &[String], places: Places) -> u8 {
         source,
         out,
         keeper: SqliteKeeper::new(rt, places.db),
+        door: TcpDoor::new(rt, places.listen),
     };
     top(alloc, words, &mut outside)
 }

@@ -2,7 +2,7 @@ use crate::previews::preview;
 use crate::tops::{Outside, top};
 use sg_base::Moment;
 use sg_keeper::MapKeeper;
-use sg_outside::{MemSink, MemSource};
+use sg_outside::{MemDoor, MemSink, MemSource};
 use std::alloc::Global;
 use std::process::Abort;
 use std::test::Fail;
@@ -59,10 +59,12 @@ pub(crate) fn expect(
 ) -> Result<(), Fail> {
     let words = words_of(alloc, line)?;
     let keeper = MapKeeper::new(alloc);
+    let door = MemDoor::new(alloc, Vec::new(alloc));
     let mut outside = Outside {
         source,
         out,
         keeper,
+        door,
     };
     let answer = top(alloc, words.as_slice(), &mut outside);
     assert_eq!(rt; answer, status, "status of {line}");
