@@ -22,8 +22,6 @@ mod display;
 #[cfg(test)]
 mod faults;
 mod input;
-#[cfg(test)]
-mod keeping;
 mod previews;
 mod stop;
 #[cfg(test)]

@@ -42,13 +42,13 @@ returns-in-Err-clause-run g c = λ other names.
     let at = door_at (g.N.Door.coming door) (g.N.Door.back door) (g.N.Door.ended door) (g.N.Door.faults door) in
     let view = g.K.Keeper.view in
     stopped_first
-    (Does (λ operator limit. Serves view 
+    (Does (λ operator limit. Serves view
     (λ conn state. scene_at (g.N.Conn.Ends.left conn) (g.N.Conn.Ends.take_faults conn) (g.N.Conn.Ends.written conn) (g.N.Conn.Ends.put_faults conn) state)
-     operator limit at at keeper keeper) other input input (view keeper) (view keeper))
+    operator limit at at keeper keeper) other input input (view keeper) (view keeper))
     9 memory_fault c.finish-in-Err.result _ _ _ _ c.finish-in-Err.ensures
-    (runs_out view 
+    (runs_out view
     (λ conn state. scene_at (g.N.Conn.Ends.left conn) (g.N.Conn.Ends.take_faults conn) (g.N.Conn.Ends.written conn) (g.N.Conn.Ends.put_faults conn) state)
-     at keeper other input)
+    at keeper other input)
 
 pub returns-in-Err-clause-alone : goal.returns-in-Err-clause-alone
 returns-in-Err-clause-alone g c = λ other names. all_alone other c.args.outside.now.source c.args.outside.now.keeper c.args.outside.now.door
